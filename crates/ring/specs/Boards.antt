@@ -1,0 +1,61 @@
+-- Document 01, "Boards, links, ticks": a ring, its neighbours, its limits, and what an accepted ring is.
+use mathlib.Core.Path.{_≡_}
+use mathlib.Core.List.{List}
+use mathlib.Core.Logic.{_⊎_}
+use Prim.Native.Nat.{ℕ, zero, suc, _-_, _≤_, _<_}
+use lib.Dec.{eqb}
+use lib.IntN.{ℤ, pos, _-ℤ_, natAbs}
+use lib.ListN.{getD}
+use Rattle.ring.specs.Numbers.{pick, sum}
+
+-- A ring as natural numbers: n boards, board i with the load `load i` that is to become `after i`, and link i from board i to the
+-- next with the cost `cost i`, the ticks for one item either way.
+pub record Ring : Type 0 where
+  pub kind : ℕ
+  pub n : ℕ
+  pub load : ℕ → ℕ
+  pub after : ℕ → ℕ
+  pub cost : ℕ → ℕ
+
+-- the ring of a job's numbers: the load after is load − surplus
+abbrev pub ringOf : ℕ → ℕ → (ℕ → ℕ) → (ℕ → ℤ) → (ℕ → ℕ) → Ring
+ringOf kind n load surplus cost =
+    record { kind = kind; n = n; load = load; after = λ i. natAbs (pos (load i) -ℤ surplus i); cost = cost }
+
+-- the same of lists of them
+abbrev pub ringIn : ℕ → ℕ → List ℕ → List ℤ → List ℕ → Ring
+ringIn kind n loads surpluses costs = ringOf kind n (λ i. getD loads i 0) (λ i. getD surpluses i (pos 0)) (λ i. getD costs i 0)
+
+module _ (r : Ring) where
+  -- the board after board i, (i + 1) mod n; link i leads to it
+  abbrev pub next : ℕ → ℕ
+  next i = pick (eqb (suc i) (r .n)) 0 (suc i)
+
+  -- the board before board i; its link leads to board i. With n = 2 the links i and `prev i` are two
+  abbrev pub prev : ℕ → ℕ
+  prev zero = r .n - 1
+  prev (suc i) = i
+
+-- the limits: a load, and a load after, is 1 to 4,095; a cost 1 to 8,000
+abbrev pub mostLoad : ℕ
+mostLoad = 4095
+
+abbrev pub mostCost : ℕ
+mostCost = 8000
+
+abbrev pub Within : ℕ → ℕ → ℕ → Type 0
+Within lo hi x = (lo ≤ x) × (x ≤ hi)
+
+-- links of kinds 1 and 3 have one cost
+abbrev pub OneCost : ℕ → Type 0
+OneCost kind = (kind ≡ 1) ⊎ (kind ≡ 3)
+
+-- what a ring is that none of refusals 4 to 11 meets
+pub record Accepted (r : Ring) : Type 0 where
+  pub kinds : Within 1 3 (r .kind)
+  pub boards : Within 2 128 (r .n)
+  pub loads : (i : ℕ) → i < r .n → Within 1 mostLoad (r .load i)
+  pub afters : (i : ℕ) → i < r .n → Within 1 mostLoad (r .after i)
+  pub costs : (i : ℕ) → i < r .n → Within 1 mostCost (r .cost i)
+  pub alike : OneCost (r .kind) → (i : ℕ) → i < r .n → r .cost i ≡ r .cost 0
+  pub balanced : sum (r .load) (r .n) ≡ sum (r .after) (r .n)
