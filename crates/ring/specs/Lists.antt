@@ -2,6 +2,7 @@
 use mathlib.Core.List.{List, [], _∷_, _++_}
 use Prim.Native.Nat.{ℕ, zero, suc, _+_}
 use mathlib.Core.Bool.{Bool}
+use lib.ListN.{set}
 use Rattle.ring.specs.Numbers.{one-if}
 
 -- each of a list
@@ -27,3 +28,8 @@ count p xs = total (λ x. one-if (p x)) xs
 unfoldable pub joined : {A : Type 0} → (ℕ → List A) → ℕ → List A
 joined g zero = []
 joined g (suc k) = joined g k ++ g k
+
+-- xs with g 0 .. g (k - 1) in its first k places
+unfoldable pub fill : {A : Type 0} → (ℕ → A) → ℕ → List A → List A
+fill g zero xs = xs
+fill g (suc k) xs = set (fill g k xs) k (g k)
