@@ -5,3 +5,4 @@ pub mod Limits
 pub mod Schedule
 pub mod Plan
 pub mod Bytes
+pub mod Worked

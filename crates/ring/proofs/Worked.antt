@@ -1,0 +1,12 @@
+-- What document 01 says of its worked rings holds of the definitions: the checker computes the whole table. Assumes nothing.
+use mathlib.Core.Path.{_≡_, refl}
+use mathlib.Core.Bool.{true}
+use Rattle.ring.specs.Numbers.{sum, least, greatest, peak}
+use Rattle.ring.specs.Lists.{total, joined}
+use Rattle.ring.specs.Schedule.{loadAt, inFlight, finish}
+use Rattle.ring.specs.Plan.{endsAfter, level, low, high, offset, ahead, behind, endBack, rounds, startOf, finishOf, moves, tight}
+use Rattle.ring.specs.Worked.{holds, allHold, worked}
+
+pub worked-rings : allHold worked ≡ true
+unfolding sum least greatest peak total joined loadAt inFlight finish endsAfter level low high offset ahead behind endBack rounds startOf finishOf moves tight holds
+worked-rings = refl

@@ -1,0 +1,135 @@
+-- Document 01, "Rings worked by hand": the rings marked *, each with what the document says of it, and the test that it is so.
+use mathlib.Core.Bool.{Bool, true, false}
+use mathlib.Core.List.{List, [], _∷_, map}
+use Prim.Native.Nat.{ℕ, zero, suc, _+_, _*_}
+use lib.Dec.{eqb}
+use lib.IntN.{ℤ, pos, negsuc, _-ℤ_, natAbs}
+use lib.ListN.{length}
+use Rattle.ring.specs.Numbers.{both}
+use Rattle.ring.specs.Lists.{joined}
+use Rattle.ring.specs.Boards.{Ring, ringIn}
+use Rattle.ring.specs.Schedule.{Send, loadAt, inFlight, finish}
+use Rattle.ring.specs.Plan.{f, rounds, startOf, wayOf, carries, plan, finishOf, moves, tight}
+
+-- one thing that is said of a ring's plan
+pub data Says : Type 0 where
+  -- f of each link
+  items : List ℤ → Says
+  -- T
+  T : ℕ → Says
+  -- the finish
+  ending : ℕ → Says
+  -- a link that sends forward, or back, and its starts
+  forward : ℕ → List ℕ → Says
+  back : ℕ → List ℕ → Says
+  -- a tick, and the loads of the boards and the number of items in flight then
+  loads : ℕ → List ℕ → Says
+  flying : ℕ → ℕ → Says
+  -- the length of the plan in bytes, 15 + 6 × moves
+  bytes : ℕ → Says
+  -- the moves, and the tight link
+  sent : ℕ → Says
+  tightest : ℕ → Says
+
+-- a ring, and what is said of it
+pub record Row : Type 0 where
+  pub ring : Ring
+  pub says : List Says
+
+-- all of a list of tests hold
+abbrev pub every : List Bool → Bool
+every [] = true
+every (t ∷ ts) = both t (every ts)
+
+-- two lists of signed numbers are the same
+abbrev pub same : List ℤ → List ℤ → Bool
+same [] [] = true
+same [] (y ∷ ys) = false
+same (x ∷ xs) [] = false
+same (x ∷ xs) (y ∷ ys) = both (eqb (natAbs (x -ℤ y)) 0) (same xs ys)
+
+-- the same of natural numbers
+abbrev pub alike : List ℕ → List ℕ → Bool
+alike xs ys = same (map pos xs) (map pos ys)
+
+-- the values g 0 .. g (k - 1)
+abbrev pub upTo : {A : Type 0} → (ℕ → A) → ℕ → List A
+upTo g k = joined (λ i. g i ∷ []) k
+
+-- link i sends this way, and starts at these ticks
+abbrev pub starts : Ring → ℕ → ℕ → List ℕ → Bool
+starts r way i ts = both (eqb (wayOf r i) way) (alike (upTo (λ j. startOf r i (suc j)) (carries r i)) ts)
+
+-- what is said holds of the ring's plan
+unfoldable pub holds : Ring → Says → Bool
+holds r (items zs) = same (upTo (f r) (r .n)) zs
+holds r (T t) = eqb (rounds r) t
+holds r (ending t) = both (eqb (finishOf r) t) (eqb (finish r (plan r)) t)
+holds r (forward i ts) = starts r 0 i ts
+holds r (back i ts) = starts r 1 i ts
+holds r (loads t ls) = alike (upTo (λ i. loadAt r (plan r) i t) (r .n)) ls
+holds r (flying t k) = eqb (inFlight r (plan r) t) k
+holds r (bytes k) = eqb (15 + 6 * length (plan r)) k
+holds r (sent k) = both (eqb (moves r) k) (eqb (length (plan r)) k)
+holds r (tightest i) = eqb (tight r) i
+
+abbrev pub allHold : List Row → Bool
+allHold rows = every (map (λ (w : Row). every (map (holds (w .ring)) (w .says))) rows)
+
+-- −1 − k, to write the table with
+abbrev pub minus : ℕ → ℤ
+minus zero = pos 0
+minus (suc k) = negsuc k
+
+abbrev pub ints : List ℕ → List ℤ
+ints xs = map pos xs
+
+-- rings A, B, C, C2, D, E, F, G, H
+abbrev pub worked : List Row
+worked =
+    record {
+      ring = ringIn 2 4 (5 ∷ 1 ∷ 1 ∷ 2 ∷ []) (pos 3 ∷ pos 0 ∷ minus 2 ∷ minus 1 ∷ []) (2 ∷ 3 ∷ 1 ∷ 4 ∷ []);
+      says =
+          items (ints (3 ∷ 3 ∷ 1 ∷ 0 ∷ [])) ∷ ending 9 ∷ sent 7 ∷ tightest 0
+          ∷ forward 0 (0 ∷ 2 ∷ 4 ∷ []) ∷ forward 1 (0 ∷ 3 ∷ 6 ∷ []) ∷ forward 2 (0 ∷ []) ∷ forward 3 []
+          ∷ loads 3 (3 ∷ 1 ∷ 1 ∷ 3 ∷ []) ∷ flying 3 1
+          ∷ [];
+    }
+    ∷ record {
+      ring = ringIn 3 4 (6 ∷ 1 ∷ 1 ∷ 1 ∷ []) (pos 4 ∷ minus 2 ∷ minus 1 ∷ minus 1 ∷ []) (5 ∷ 5 ∷ 5 ∷ 5 ∷ []);
+      says =
+          items (pos 2 ∷ pos 0 ∷ minus 1 ∷ minus 2 ∷ []) ∷ T 4 ∷ ending 20
+          ∷ forward 0 (0 ∷ 5 ∷ []) ∷ forward 1 [] ∷ back 2 (15 ∷ []) ∷ back 3 (10 ∷ 15 ∷ [])
+          ∷ [];
+    }
+    ∷ record {
+      ring = ringIn 1 2 (2 ∷ 1 ∷ []) (pos 1 ∷ minus 1 ∷ []) (7 ∷ 7 ∷ []);
+      says = items (ints (1 ∷ 0 ∷ [])) ∷ ending 7 ∷ [];
+    }
+    ∷ record {
+      ring = ringIn 1 2 (1 ∷ 2 ∷ []) (minus 1 ∷ pos 1 ∷ []) (7 ∷ 7 ∷ []);
+      says = items (ints (0 ∷ 1 ∷ [])) ∷ ending 7 ∷ [];
+    }
+    ∷ record {
+      ring = ringIn 2 2 (2 ∷ 1 ∷ []) (pos 1 ∷ minus 1 ∷ []) (1 ∷ 100 ∷ []);
+      says = ending 1 ∷ [];
+    }
+    ∷ record {
+      ring = ringIn 1 3 (1 ∷ 1 ∷ 1 ∷ []) (pos 0 ∷ pos 0 ∷ pos 0 ∷ []) (1 ∷ 1 ∷ 1 ∷ []);
+      says = ending 0 ∷ bytes 15 ∷ [];
+    }
+    ∷ record {
+      ring = ringIn 1 3 (2 ∷ 1 ∷ 1 ∷ []) (pos 1 ∷ pos 0 ∷ minus 1 ∷ []) (1 ∷ 1 ∷ 1 ∷ []);
+      says = items (ints (1 ∷ 1 ∷ 0 ∷ [])) ∷ ending 1 ∷ forward 1 (0 ∷ []) ∷ [];
+    }
+    ∷ record {
+      ring =
+          ringIn 3 6 (3 ∷ 3 ∷ 3 ∷ 1 ∷ 1 ∷ 1 ∷ []) (pos 2 ∷ pos 2 ∷ pos 2 ∷ minus 2 ∷ minus 2 ∷ minus 2 ∷ [])
+          (1 ∷ 1 ∷ 1 ∷ 1 ∷ 1 ∷ 1 ∷ []);
+      says = items (minus 1 ∷ pos 1 ∷ pos 3 ∷ pos 1 ∷ minus 1 ∷ minus 3 ∷ []) ∷ ending 3 ∷ [];
+    }
+    ∷ record {
+      ring = ringIn 3 3 (4 ∷ 1 ∷ 1 ∷ []) (pos 3 ∷ minus 2 ∷ minus 1 ∷ []) (1 ∷ 1 ∷ 1 ∷ []);
+      says = items (pos 2 ∷ pos 0 ∷ minus 1 ∷ []) ∷ ending 3 ∷ [];
+    }
+    ∷ []
