@@ -1,0 +1,27 @@
+-- What holds of each element, and of each two, of pieces one after the other, and what a total over them is. Assumes nothing.
+use mathlib.Core.Path.{_≡_, refl}
+use mathlib.Core.List.{List}
+use Prim.Native.Nat.{ℕ, zero, suc, _<_}
+use native.Mathlib.Omega.{arith}
+use Rattle.ring.specs.Numbers.{sum}
+use Rattle.ring.specs.Lists.{Each, EachTwo, total, joined}
+use Rattle.ring.proofs.Totals.{each-append, two-append, total-append}
+
+module _ {A : Type 0} where
+  pub each-joined : (P : A → Type 0) (g : ℕ → List A) (k : ℕ) → ((i : ℕ) → i < k → Each P (g i)) → Each P (joined g k)
+  unfolding joined
+  each-joined P g zero h = tt
+  each-joined P g (suc k) h = each-append P (joined g k) (g k) (each-joined P g k (λ i l. h i (omega arith))) (h k (omega arith))
+
+  pub two-joined : (P : A → A → Type 0) (g : ℕ → List A) (k : ℕ) → ((i : ℕ) → i < k → EachTwo P (g i))
+      → ((i l : ℕ) → i < l → l < k → Each (λ x. Each (P x) (g l)) (g i)) → EachTwo P (joined g k)
+  unfolding joined
+  two-joined P g zero h c = tt
+  two-joined P g (suc k) h c =
+      two-append P (joined g k) (g k) (two-joined P g k (λ i l. h i (omega arith)) (λ i l a b. c i l a (omega arith))) (h k (omega arith))
+      (each-joined (λ x. Each (P x) (g k)) g k (λ i l. c i k l (omega arith)))
+
+  pub total-joined : (f : A → ℕ) (g : ℕ → List A) (k : ℕ) → total f (joined g k) ≡ sum (λ i. total f (g i)) k
+  unfolding joined sum total
+  total-joined f g zero = refl
+  total-joined f g (suc k) = omega (arith, total-append f (joined g k) (g k), total-joined f g k)
