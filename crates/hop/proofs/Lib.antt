@@ -1,0 +1,16 @@
+pub mod SignedSum
+pub mod Bits16
+pub mod First
+pub mod Ends
+pub mod Same
+pub mod Passed
+pub mod Reading
+pub mod Accepted
+pub mod Grow
+pub mod Writing
+pub mod Listing
+pub mod Pieces
+pub mod ReadBack
+pub mod WriteBack
+pub mod OneAnswer
+pub mod RoundTrip

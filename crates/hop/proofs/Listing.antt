@@ -1,0 +1,74 @@
+-- What is known of a writer's lists that pass, and the ends of the writer. Assumes nothing.
+use mathlib.Core.Path.{_≡_, refl, sym, ap, _∙_}
+use mathlib.Core.List.{List, _++_}
+use Prim.Native.Nat.{ℕ, _≤_, _<_}
+use native.Mathlib.Omega.{arith}
+use lib.Dec.{eqb}
+use lib.IntN.{ℤ}
+use lib.ListN.{length, drop}
+use borrow.Author.Tests.{lt-ltb, le-ltb, eqb-true}
+use Rattle.ring.specs.Boards.{Within}
+use Rattle.hop.specs.declared.Check.{Check}
+use Rattle.hop.specs.declared.Check.the-variants.{Ring, Refused}
+use Rattle.hop.specs.declared.Written.{Written}
+use Rattle.hop.specs.declared.Written.the-variants.{Bytes, Refused as Unwritten}
+use Rattle.hop.specs.Refusals.{each, eachℤ, unlike, ringCheck}
+use Rattle.hop.specs.Read.{jobLength}
+use Rattle.hop.specs.Write.{jobBytes, listsOf, roomOf, writtenOf, bufferBy, bufferOf}
+use Rattle.hop.proofs.First.{yes}
+use Rattle.hop.proofs.Passed.{shaped, Passed, passed}
+
+module _ (kind : ℕ) (loads : List ℕ) (surpluses : List ℤ) (costs : List ℕ) where
+  abbrev checked : Check
+  checked = ringCheck kind (length loads) (each loads) (eachℤ surpluses) (each costs)
+
+  pub record Listed (k n : ℕ) : Type 0 where
+    pub kinds : Within 1 3 kind
+    pub boards : Within 2 128 (length loads)
+    pub surpluses-long : length surpluses ≡ length loads
+    pub costs-long : length costs ≡ length loads
+    pub pass : Passed kind (length loads) (each loads) (eachℤ surpluses) (each costs) k n
+    pub check-is : checked ≡ Ring k n
+
+  pub listed : (k n : ℕ) → listsOf kind loads surpluses costs ≡ Ring k n → Listed k n
+  listed k n e =
+      let a = shaped kind (length loads) k n (unlike (length surpluses) (length loads) (Refused 6 0) (unlike (length costs) (length loads) (Refused 6 0) checked)) e in
+      let b = yes (eqb (length surpluses) (length loads)) 6 0 k n (unlike (length costs) (length loads) (Refused 6 0) checked) (a .2) in
+      let c = yes (eqb (length costs) (length loads)) 6 0 k n checked (b .1) in
+      record {
+        kinds = a .0;
+        boards = a .1;
+        surpluses-long = eqb-true (length surpluses) (length loads) (b .0);
+        costs-long = eqb-true (length costs) (length loads) (c .0);
+        pass = passed kind (length loads) (each loads) (eachℤ surpluses) (each costs) k n (c .1);
+        check-is = c .1;
+      }
+
+  module _ (buf : List ℕ) where
+    -- the answer, and the buffer that goes by it
+    pub record Ends (w : Written) (now : List ℕ) : Type 0 where
+      pub answer : w ≡ writtenOf kind loads surpluses costs (length buf)
+      pub buffer : now ≡ bufferOf kind loads surpluses costs buf
+
+    ends : (w : Written) (now : List ℕ) → roomOf (length buf) (listsOf kind loads surpluses costs) ≡ w
+        → now ≡ bufferBy w (jobBytes kind (length loads) (each loads) (eachℤ surpluses) (each costs)) buf → Ends w now
+    unfolding writtenOf bufferOf
+    ends w now e b =
+        record {
+          answer = sym e;
+          buffer = b ∙ ap (λ (x : Written). bufferBy x (jobBytes kind (length loads) (each loads) (eachℤ surpluses) (each costs)) buf) (sym e);
+        }
+
+    pub refused : (a b : ℕ) → listsOf kind loads surpluses costs ≡ Refused a b → Ends (Unwritten a b) buf
+    refused a b e = ends (Unwritten a b) buf (ap (roomOf (length buf)) e) refl
+
+    module _ (k n at : ℕ) (e : listsOf kind loads surpluses costs ≡ Ring k n) (is : at ≡ jobLength n) where
+      pub short : length buf < at → Ends (Unwritten 13 0) buf
+      short h = ends (Unwritten 13 0) buf (ap (roomOf (length buf)) e ∙ rw (lt-ltb (length buf) (jobLength n) (omega arith))) refl
+
+      pub wrote : at ≤ length buf → (now : List ℕ) → now ≡ jobBytes kind n (each loads) (eachℤ surpluses) (each costs) ++ drop (jobLength n) buf → Ends (Bytes at) now
+      wrote h now b =
+          let p = sym (listed k n e .pass .n-is) in
+          rw is
+          (ends (Bytes (jobLength n)) now (ap (roomOf (length buf)) e ∙ rw (le-ltb (length buf) (jobLength n) (omega arith)))
+          (b ∙ (λ t. jobBytes kind (p t) (each loads) (eachℤ surpluses) (each costs) ++ drop (jobLength n) buf)))

@@ -1,0 +1,25 @@
+-- No two answers, and no two states of a lent buffer, fit the contract of an exported function. Assumes nothing.
+use mathlib.Core.Path.{_≡_, sym, _∙_}
+use borrow.Fn.Kinds.{Dens, resT, endedOf}
+use contract.Lifetimes.{Lfts}
+use denote.Triple.Clauses.{AtExit}
+use denote.Ref.{now}
+use Rattle.hop.proofs.job_length.Kinds as job-length
+use Rattle.hop.proofs.job_length.Reads as job-length-said
+use Rattle.hop.proofs.read.Kinds as read
+use Rattle.hop.proofs.read.Reads as read-said
+use Rattle.hop.proofs.write.Kinds as write
+use Rattle.hop.proofs.write.Reads as write-said
+
+-- of each: lifetimes, the arguments, two answers, and what is lent as the function returns
+pub one-job-length : (κs : Lfts 0) (a : Dens κs job-length.ps) (x y : resT job-length.r κs .Denot) (s t : AtExit (endedOf 0 job-length.ps job-length.r) κs)
+    → job-length-said.Post κs a x s → job-length-said.Post κs a y t → x ≡ y
+one-job-length κs a x y s t p q = p ∙ sym q
+
+pub one-read : (κs : Lfts 1) (a : Dens κs read.ps) (x y : resT read.r κs .Denot) (s t : AtExit (endedOf 1 read.ps read.r) κs)
+    → read-said.Post κs a x s → read-said.Post κs a y t → x ≡ y
+one-read κs a x y s t p q = p ∙ sym q
+
+pub one-write : (κs : Lfts 4) (a : Dens κs write.ps) (x y : resT write.r κs .Denot) (s t : AtExit (endedOf 4 write.ps write.r) κs)
+    → write-said.Post κs a x s → write-said.Post κs a y t → (x ≡ y) × (now (s .1 .1 .1 .1 .0) ≡ now (t .1 .1 .1 .1 .0))
+one-write κs a x y s t p q = (p .0 ∙ sym (q .0), p .1 ∙ sym (q .1))

@@ -1,0 +1,39 @@
+-- Lists made of pieces of six: their length, their elements, and when they are the same. Assumes nothing.
+use mathlib.Core.Path.{_≡_, refl, ap, _∙_}
+use mathlib.Core.List.{List, [], _∷_, _++_}
+use mathlib.Core.Logic.{inl, inr}
+use Prim.Native.Nat.{ℕ, zero, suc, _+_, _*_, _≤_, _<_}
+use native.Mathlib.Omega.{arith}
+use lib.ListN.{length, getD, take, length-append, List·getD-append}
+use lib.Seq.{getD-append-add, take-suc}
+use Rattle.ring.specs.Lists.{joined}
+use Rattle.ring.proofs.Steady.{le-lt}
+
+module _ (g : ℕ → List ℕ) (long : (i : ℕ) → length (g i) ≡ 6) where
+  pub joined-long : (k : ℕ) → length (joined g k) ≡ 6 * k
+  unfolding joined
+  joined-long zero = refl
+  joined-long (suc k) = simp (length-append, long, joined-long k) (omega arith)
+
+  -- element j of piece i
+  pub joined-at : (n i j : ℕ) → i < n → j < 6 → getD (joined g n) (6 * i + j) 0 ≡ getD (g i) j 0
+  unfolding joined
+  joined-at zero i j h w = absurd (omega arith)
+  joined-at (suc k) i j h w =
+      elim (le-lt k i) [
+        | inl l ↦
+            let q : i ≡ k = omega arith in
+            rw (q, ← joined-long k) (getD-append-add (joined g k) (g k) j 0)
+        | inr l ↦ List·getD-append (joined g k) (g k) 0 (6 * i + j) (omega (arith, joined-long k)) ∙ joined-at k i j l w
+      ]
+
+pub joined-same : {A : Type 0} (g h : ℕ → List A) (k : ℕ) → ((i : ℕ) → i < k → g i ≡ h i) → joined g k ≡ joined h k
+unfolding joined
+joined-same g h zero e = refl
+joined-same g h (suc k) e = λ t. joined-same g h k (λ i l. e i (omega arith)) t ++ e k (omega arith) t
+
+-- the first k elements, one by one
+pub first : (k : ℕ) (xs : List ℕ) → k ≤ length xs → take k xs ≡ joined (λ j. getD xs j 0 ∷ []) k
+unfolding joined
+first zero xs h = refl
+first (suc k) xs h = take-suc xs k 0 (omega arith) ∙ ap (λ (l : List ℕ). l ++ getD xs k 0 ∷ []) (first k xs (omega arith))

@@ -1,0 +1,100 @@
+-- What is known of the bytes of a job, and the ends of the reader. Assumes nothing.
+use mathlib.Core.Path.{_≡_, sym, ap, _∙_}
+use mathlib.Core.List.{List}
+use Prim.Native.Nat.{ℕ, _≤_}
+use native.Mathlib.Omega.{arith}
+use lib.Dec.{ltb, eqb}
+use lib.IntN.{pos}
+use lib.ListN.{length, getD, replicate}
+use borrow.Author.Tests.{eqb-true}
+use Rattle.ring.specs.Boards.{Within}
+use Rattle.ring.specs.Bytes.{halfAt}
+use Rattle.ring.proofs.Fill.{fill-at, fill-length}
+use Rattle.hop.specs.declared.Check.{Check}
+use Rattle.hop.specs.declared.Check.the-variants.{Ring, Refused}
+use Rattle.hop.specs.declared.Job.{Job}
+use Rattle.hop.specs.Refusals.{each, eachℤ, unlike, ringCheck}
+use Rattle.hop.specs.Read.{jobLength, loadAt, surplusAt, costAt, sizesOf, markOf, headOf, bodyOf, checkOf, bare, beside, jobOf}
+use Rattle.hop.proofs.First.{no, yes}
+use Rattle.hop.proofs.Same.{Below, check-same}
+use Rattle.hop.proofs.Passed.{shaped, passed}
+
+module _ (s : List ℕ) where
+  -- what the first seven bytes of a ring say
+  pub record Headed (k n : ℕ) : Type 0 where
+    pub h : getD s 0 0 ≡ 72
+    pub o : getD s 1 0 ≡ 79
+    pub p : getD s 2 0 ≡ 80
+    pub version : halfAt s 3 ≡ 1
+    pub kind-is : getD s 5 0 ≡ k
+    pub n-is : getD s 6 0 ≡ n
+    pub kinds : Within 1 3 k
+    pub boards : Within 2 128 n
+    pub whole : length s ≡ jobLength n
+
+  pub headed : (k n : ℕ) → headOf s ≡ Ring k n → Headed k n
+  headed k n e =
+      let K = getD s 5 0 in
+      let N = getD s 6 0 in
+      let e0 = no (ltb (length s) 7) 1 0 k n (markOf s) e in
+      let e1 = yes (eqb (getD s 0 0) 72) 2 0 k n (unlike (getD s 1 0) 79 (Refused 2 0) (unlike (getD s 2 0) 80 (Refused 2 0) (unlike (halfAt s 3) 1 (Refused 3 0) (sizesOf s)))) (e0 .1) in
+      let e2 = yes (eqb (getD s 1 0) 79) 2 0 k n (unlike (getD s 2 0) 80 (Refused 2 0) (unlike (halfAt s 3) 1 (Refused 3 0) (sizesOf s))) (e1 .1) in
+      let e3 = yes (eqb (getD s 2 0) 80) 2 0 k n (unlike (halfAt s 3) 1 (Refused 3 0) (sizesOf s)) (e2 .1) in
+      let e4 = yes (eqb (halfAt s 3) 1) 3 0 k n (sizesOf s) (e3 .1) in
+      let e5 = shaped K N k n (unlike (length s) (jobLength N) (Refused 6 0) (Ring K N)) (e4 .1) in
+      let e6 = yes (eqb (length s) (jobLength N)) 6 0 k n (Ring K N) (e5 .2) in
+      let r : Ring K N ≡ Ring k n = e6 .1 in
+      let i : K ≡ k = cc in
+      let j : N ≡ n = cc in
+      record {
+        h = eqb-true (getD s 0 0) 72 (e1 .0);
+        o = eqb-true (getD s 1 0) 79 (e2 .0);
+        p = eqb-true (getD s 2 0) 80 (e3 .0);
+        version = eqb-true (halfAt s 3) 1 (e4 .0);
+        kind-is = i;
+        n-is = j;
+        kinds = rw i at (e5 .0);
+        boards = rw j at (e5 .1);
+        whole = eqb-true (length s) (jobLength N) (e6 .0) ∙ ap jobLength j;
+      }
+
+  -- a refusal has zeros beside it
+  pub refused : (c : Check) (a b : ℕ) → c ≡ checkOf s → c ≡ Refused a b → bare c ≡ jobOf s
+  unfolding jobOf
+  refused c a b e q = ap bare q ∙ ap (beside s) (sym q ∙ e)
+
+  pub head-refused : (c : Check) (a b : ℕ) → c ≡ headOf s → c ≡ Refused a b → bare c ≡ jobOf s
+  unfolding checkOf
+  head-refused c a b e q = refused c a b (q ∙ ap (bodyOf s) (sym q ∙ e)) q
+
+  module _ (k n : ℕ) (d : headOf s ≡ Ring k n) (j : Job) (is : j ≡ beside s (Ring k n)) where
+    pub lengths : (length (j .loads) ≡ 128) × (length (j .surpluses) ≡ 128) × (length (j .costs) ≡ 128)
+    lengths = (
+      ap (λ (x : Job). length (x .loads)) is ∙ fill-length (loadAt s) (replicate 128 0) 0 n,
+      ap (λ (x : Job). length (x .surpluses)) is ∙ fill-length (surplusAt s) (replicate 128 (pos 0)) (pos 0) n,
+      ap (λ (x : Job). length (x .costs)) is ∙ fill-length (costAt s) (replicate 128 0) 0 n,
+    )
+
+    -- the arrays hold what the bytes say
+    pub loads-are : n ≤ 128 → Below (each (j .loads)) (loadAt s) n
+    loads-are h = record { at = λ i l. ap (λ (x : Job). each (x .loads) i) is ∙ fill-at (loadAt s) (replicate 128 0) 0 n i l h }
+
+    pub surpluses-are : n ≤ 128 → Below (eachℤ (j .surpluses)) (surplusAt s) n
+    surpluses-are h = record { at = λ i l. ap (λ (x : Job). eachℤ (x .surpluses) i) is ∙ fill-at (surplusAt s) (replicate 128 (pos 0)) (pos 0) n i l h }
+
+    pub costs-are : n ≤ 128 → Below (each (j .costs)) (costAt s) n
+    costs-are h = record { at = λ i l. ap (λ (x : Job). each (x .costs) i) is ∙ fill-at (costAt s) (replicate 128 0) 0 n i l h }
+
+    pub check-is : ringCheck k n (each (j .loads)) (eachℤ (j .surpluses)) (each (j .costs)) ≡ checkOf s
+    unfolding checkOf
+    check-is =
+        let h = headed k n d .boards in
+        check-same k n (omega arith) (each (j .loads)) (loadAt s) (eachℤ (j .surpluses)) (surplusAt s) (each (j .costs)) (costAt s)
+        (loads-are (h .1)) (surpluses-are (h .1)) (costs-are (h .1))
+        ∙ sym (ap (bodyOf s) d)
+
+    pub job-is : (a b : ℕ) → checkOf s ≡ Ring a b → j ≡ jobOf s
+    unfolding jobOf
+    job-is a b e =
+        let p = passed k n (each (j .loads)) (eachℤ (j .surpluses)) (each (j .costs)) a b (check-is ∙ e) in
+        is ∙ ap (beside s) ((λ t. Ring (p .kind-is t) (p .n-is t)) ∙ sym e)

@@ -1,0 +1,80 @@
+-- Document 01, "Bytes": what the bytes of a job say, or why they are refused.
+use mathlib.Core.Bool.{Bool}
+use mathlib.Core.List.{List}
+use Prim.Native.Nat.{ℕ, _+_, _*_}
+use lib.Dec.{ltb}
+use lib.IntN.{ℤ, pos}
+use lib.ListN.{length, getD, replicate}
+use mir.Syntax.{w16}
+use mir.Val.{toZ}
+use Rattle.ring.specs.Numbers.{pick}
+use Rattle.ring.specs.Lists.{fill}
+use Rattle.ring.specs.Bytes.{halfAt}
+use Rattle.hop.specs.declared.Check.{Check}
+use Rattle.hop.specs.declared.Check.the-variants.{Ring, Refused}
+use Rattle.hop.specs.declared.Job.{Job}
+use Rattle.hop.specs.Refusals.{unlike, shape, ringCheck}
+
+-- the length of a job of n boards, and so the place of board n's numbers in a longer one
+abbrev pub jobLength : ℕ → ℕ
+jobLength n = 7 + 6 * n
+
+-- board i's load, its surplus in two's complement, and the cost of link i
+abbrev pub loadAt : List ℕ → ℕ → ℕ
+loadAt s i = halfAt s (jobLength i)
+
+abbrev pub surplusAt : List ℕ → ℕ → ℤ
+surplusAt s i = toZ w16 (halfAt s (jobLength i + 2))
+
+abbrev pub costAt : List ℕ → ℕ → ℕ
+costAt s i = halfAt s (jobLength i + 4)
+
+-- refusals 4 to 6, or the kind and n
+abbrev pub sizesOf : List ℕ → Check
+sizesOf s =
+    shape (getD s 5 0) (getD s 6 0)
+    (unlike (length s) (jobLength (getD s 6 0)) (Refused 6 0) (Ring (getD s 5 0) (getD s 6 0)))
+
+-- 2 where the mark is not "HOP", 3 where the version is not 1, then the rest
+abbrev pub markOf : List ℕ → Check
+markOf s =
+    unlike (getD s 0 0) 72 (Refused 2 0)
+    (unlike (getD s 1 0) 79 (Refused 2 0)
+    (unlike (getD s 2 0) 80 (Refused 2 0)
+    (unlike (halfAt s 3) 1 (Refused 3 0) (sizesOf s))))
+
+-- refusals 1 to 6, or the kind and n
+abbrev pub headOf : List ℕ → Check
+headOf s = pick (ltb (length s) 7) (Refused 1 0) (markOf s)
+
+-- refusals 7 to 11 after them
+abbrev pub bodyOf : List ℕ → Check → Check
+bodyOf s (Ring kind n) = ringCheck kind n (loadAt s) (surplusAt s) (costAt s)
+bodyOf s (Refused number board) = Refused number board
+
+-- the reader's answer: refusals 1 to 11, or the kind and n
+unfoldable pub checkOf : List ℕ → Check
+checkOf s = bodyOf s (headOf s)
+
+-- a ring with its boards' numbers beside it, and zeros after them
+abbrev pub holding : ℕ → ℕ → (ℕ → ℕ) → (ℕ → ℤ) → (ℕ → ℕ) → Job
+holding kind n load surplus cost =
+    record {
+      answer = Ring kind n;
+      loads = fill load n (replicate 128 0);
+      surpluses = fill surplus n (replicate 128 (pos 0));
+      costs = fill cost n (replicate 128 0);
+    }
+
+-- an answer with nothing but zeros beside it
+abbrev pub bare : Check → Job
+bare answer = record { answer = answer; loads = replicate 128 0; surpluses = replicate 128 (pos 0); costs = replicate 128 0 }
+
+-- a ring has the numbers that the bytes say beside it, a refusal has zeros
+abbrev pub beside : List ℕ → Check → Job
+beside s (Ring kind n) = holding kind n (loadAt s) (surplusAt s) (costAt s)
+beside s (Refused number board) = bare (Refused number board)
+
+-- the job that is read from any bytes
+unfoldable pub jobOf : List ℕ → Job
+jobOf s = beside s (checkOf s)
