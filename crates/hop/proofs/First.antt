@@ -8,7 +8,7 @@ use native.Mathlib.Numerals.{add-one}
 use lib.Dec.{eqb}
 use borrow.Author.Tests.{eq-eqb, ne-eqb, eqb-true}
 use Rattle.ring.specs.Numbers.{pick}
-use Rattle.ring.proofs.Steady.{le-lt}
+use Rattle.ring.proofs.Tests.{le-lt}
 use Rattle.hop.specs.declared.Check.{Check}
 use Rattle.hop.specs.declared.Check.the-variants.{Ring, Refused}
 use Rattle.hop.specs.Refusals.{unlike, faultless}

@@ -4,6 +4,10 @@ use borrow.Fn.Kinds.{Dens, resT, endedOf}
 use contract.Lifetimes.{Lfts}
 use denote.Triple.Clauses.{AtExit}
 use denote.Ref.{now}
+use Rattle.hop.proofs.number.Kinds as number
+use Rattle.hop.proofs.number.Reads as number-said
+use Rattle.hop.proofs.board.Kinds as board
+use Rattle.hop.proofs.board.Reads as board-said
 use Rattle.hop.proofs.job_length.Kinds as job-length
 use Rattle.hop.proofs.job_length.Reads as job-length-said
 use Rattle.hop.proofs.read.Kinds as read
@@ -12,6 +16,14 @@ use Rattle.hop.proofs.write.Kinds as write
 use Rattle.hop.proofs.write.Reads as write-said
 
 -- of each: lifetimes, the arguments, two answers, and what is lent as the function returns
+pub one-number : (κs : Lfts 0) (a : Dens κs number.ps) (x y : resT number.r κs .Denot) (s t : AtExit (endedOf 0 number.ps number.r) κs)
+    → number-said.Post κs a x s → number-said.Post κs a y t → x ≡ y
+one-number κs a x y s t p q = p ∙ sym q
+
+pub one-board : (κs : Lfts 0) (a : Dens κs board.ps) (x y : resT board.r κs .Denot) (s t : AtExit (endedOf 0 board.ps board.r) κs)
+    → board-said.Post κs a x s → board-said.Post κs a y t → x ≡ y
+one-board κs a x y s t p q = p ∙ sym q
+
 pub one-job-length : (κs : Lfts 0) (a : Dens κs job-length.ps) (x y : resT job-length.r κs .Denot) (s t : AtExit (endedOf 0 job-length.ps job-length.r) κs)
     → job-length-said.Post κs a x s → job-length-said.Post κs a y t → x ≡ y
 one-job-length κs a x y s t p q = p ∙ sym q

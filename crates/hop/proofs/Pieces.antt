@@ -7,7 +7,7 @@ use native.Mathlib.Omega.{arith}
 use lib.ListN.{length, getD, take, length-append, List·getD-append}
 use lib.Seq.{getD-append-add, take-suc}
 use Rattle.ring.specs.Lists.{joined}
-use Rattle.ring.proofs.Steady.{le-lt}
+use Rattle.ring.proofs.Tests.{le-lt}
 
 module _ (g : ℕ → List ℕ) (long : (i : ℕ) → length (g i) ≡ 6) where
   pub joined-long : (k : ℕ) → length (joined g k) ≡ 6 * k

@@ -10,6 +10,15 @@ use Rattle.ring.specs.Limits.{outside, boardOf, faultOf}
 use Rattle.hop.specs.declared.Check.{Check}
 use Rattle.hop.specs.declared.Check.the-variants.{Ring, Refused}
 
+-- document 01's number of a check's answer, 0 where it is no refusal, and its board
+abbrev pub numberOf : Check → ℕ
+numberOf (Ring kind n) = 0
+numberOf (Refused number board) = number
+
+abbrev pub placeOf : Check → ℕ
+placeOf (Ring kind n) = 0
+placeOf (Refused number board) = board
+
 -- the numbers of a list, by their place
 abbrev pub each : List ℕ → ℕ → ℕ
 each xs i = getD xs i 0

@@ -6,7 +6,7 @@ ghost use mir.Syntax.{w16};
 ghost use mir.Val.{toZ, ofZ};
 ghost use Rattle.ring.specs.Numbers.{sumℤ};
 ghost use Rattle.ring.specs.Bytes.{halfAt};
-ghost use Rattle.hop.specs.Refusals.{each, eachℤ, ringCheck, alikeOf, balancedOf};
+ghost use Rattle.hop.specs.Refusals.{numberOf, placeOf, each, eachℤ, ringCheck, alikeOf, balancedOf};
 ghost use Rattle.hop.specs.Read.{jobLength, sizesOf, markOf, headOf, bare, beside, jobOf};
 ghost use Rattle.hop.specs.Write.{headBytes, recordBytes, jobBytes, listsOf, writtenOf, bufferOf};
 
@@ -14,6 +14,26 @@ ghost use Rattle.hop.specs.Write.{headBytes, recordBytes, jobBytes, list
 pub enum Check {
     Ring { kind: u8, n: u8 },
     Refused { number: u8, board: u8 },
+}
+
+// The refusal's number, and 0 for a ring.
+pub fn number(check: Check) -> u8
+    ensures { λ r. ⌜ r ≡ numberOf check ⌝ }
+{
+    match check {
+        Check::Ring { .. } => 0,
+        Check::Refused { number, .. } => number,
+    }
+}
+
+// The refusal's board, and 0 for a ring.
+pub fn board(check: Check) -> u8
+    ensures { λ r. ⌜ r ≡ placeOf check ⌝ }
+{
+    match check {
+        Check::Ring { .. } => 0,
+        Check::Refused { board, .. } => board,
+    }
 }
 
 // A job: the answer of its check, and the boards' numbers beside it; zeros where it is refused.
