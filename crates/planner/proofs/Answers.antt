@@ -1,0 +1,85 @@
+-- What the planner answers and leaves, from the numbers of the plan that it worked out. Assumes nothing.
+use mathlib.Core.Path.{_≡_, refl, sym, ap, subst, _∙_}
+use mathlib.Core.Bool.{Bool, true, false}
+use mathlib.Core.List.{List, _++_}
+use Prim.Native.Nat.{ℕ, _+_, _*_, _≤_, _<_}
+use native.Mathlib.Omega.{arith}
+use lib.Dec.{ltb}
+use lib.IntN.{ℤ}
+use lib.ListN.{length, getD, take, drop, replicate, length-replicate}
+use borrow.Author.Tests.{ltb-false}
+use Rattle.ring.specs.Numbers.{pick, sum}
+use Rattle.ring.specs.Lists.{joined, fill}
+use Rattle.ring.specs.Boards.{Ring, ringIn, Accepted}
+use Rattle.ring.specs.Plan.{level, offset, rounds, finishOf, moves, tight, plan}
+use Rattle.ring.proofs.Fill.{fill-at, fill-length}
+use Rattle.planner.specs.declared.Planned.{Planned}
+use Rattle.planner.specs.declared.Planned.the-variants.{Plan, Refused}
+use Rattle.planner.specs.declared.sums.Outline.{Outline}
+use Rattle.planner.specs.PlanBytes.{headBytes, recordsOf, planBytes, planLength}
+use Rattle.planner.specs.Answer.{answerFor}
+use Rattle.planner.specs.Outline.{outlineOf, Lent}
+use Rattle.planner.specs.Links.{between, pieceBy, Linked}
+use Rattle.planner.proofs.Bytes.{head-long}
+use Rattle.planner.proofs.Grow.{past-head}
+use Rattle.planner.proofs.Whole.{links-are, pieces-are, items-are}
+
+-- an answer that is no refusal passed both tests
+passed : (t u : Bool) (p q : Planned) (f m k : ℕ) → p ≡ pick t (Refused 12 0) (pick u (Refused 13 0) q) → p ≡ Plan f m k → (t ≡ false) × (u ≡ false) × (q ≡ Plan f m k)
+passed true u p q f m k a b = let z : _≡_ {A = ℕ} 0 1 = cc in absurd (omega arith)
+passed false true p q f m k a b = let z : _≡_ {A = ℕ} 0 1 = cc in absurd (omega arith)
+passed false false p q f m k a b = (refl, refl, sym a ∙ b)
+
+-- what is known of a ring whose plan was let through
+pub record Through (r : Ring) (f m room : ℕ) : Type 0 where
+  pub finish : f ≡ finishOf r
+  pub moved : m ≡ moves r
+  pub soon : finishOf r < 4294967296
+  pub fits : planLength r ≤ room
+
+pub through : (r : Ring) (room : ℕ) (p : Planned) (f m k : ℕ) → p ≡ answerFor r room → p ≡ Plan f m k → Through r f m room
+through r room p f m k a b =
+    let h = passed (ltb 4294967295 (finishOf r)) (ltb room (planLength r)) p (Plan (finishOf r) (moves r) (tight r)) f m k a b in
+    let q : Plan (finishOf r) (moves r) (tight r) ≡ Plan f m k = h .2 in
+    record { finish = cc; moved = cc; soon = omega (arith, ltb-false 4294967295 (finishOf r) (h .0)); fits = ltb-false room (planLength r) (h .1) }
+
+module _ (kind n : ℕ) (loads : List ℕ) (surpluses : List ℤ) (costs : List ℕ) (lent : Lent kind n loads surpluses costs) (o : Outline) (is : o ≡ outlineOf (ringIn kind n loads surpluses costs)) where
+  pub answer-is : (room : ℕ)
+      → pick (ltb 4294967295 (o .finish .0)) (Refused 12 0) (pick (ltb room (15 + 6 * o .moves)) (Refused 13 0) (Plan (o .finish .0) (o .moves) (o .tight)))
+      ≡ answerFor (ringIn kind n loads surpluses costs) room
+  answer-is room t =
+      pick (ltb 4294967295 (is t .finish .0)) (Refused 12 0) (pick (ltb room (15 + 6 * is t .moves)) (Refused 13 0) (Plan (is t .finish .0) (is t .moves) (is t .tight)))
+
+  level-is : (i : ℕ) → i < n → getD (fill (level (ringIn kind n loads surpluses costs)) n (replicate 128 0)) i 0 ≡ level (ringIn kind n loads surpluses costs) i
+  level-is i h =
+      let b = lent .accepted .boards in
+      fill-at (level (ringIn kind n loads surpluses costs)) (replicate 128 0) 0 n i h (omega arith)
+
+  -- the numbers are those that the links are written from
+  pub linked : finishOf (ringIn kind n loads surpluses costs) < 4294967296 → Linked kind n loads costs (o .levels) (o .offset) (o .rounds)
+  linked soon =
+      let r = ringIn kind n loads surpluses costs in
+      let long = fill-length (level r) (replicate 128 0) 0 n in
+      subst (λ (p : Outline). Linked kind n loads costs (p .levels) (p .offset) (p .rounds)) (sym is)
+      (links-are kind n loads surpluses costs (outlineOf r .levels) level-is (lent .accepted) soon (lent .loads-long) (lent .costs-long) (omega (arith, lent .accepted .boards)))
+
+  items : sum (λ i. between (getD (o .levels) i 0) (o .offset)) n ≡ moves (ringIn kind n loads surpluses costs)
+  items =
+      let r = ringIn kind n loads surpluses costs in
+      (λ t. sum (λ i. between (getD (is t .levels) i 0) (is t .offset)) n) ∙ items-are kind n loads surpluses costs (outlineOf r .levels) level-is
+
+  pub room-for : (room : ℕ) → planLength (ringIn kind n loads surpluses costs) ≤ room → 15 + 6 * sum (λ i. between (getD (o .levels) i 0) (o .offset)) n ≤ room
+  room-for room h = omega (arith, items)
+
+  -- the head and the links together are the plan
+  pub laid-out : (f m : ℕ) (xs ys zs : List ℕ) → f ≡ finishOf (ringIn kind n loads surpluses costs) → m ≡ moves (ringIn kind n loads surpluses costs) → ys ≡ headBytes kind n f m ++ drop 15 xs
+      → zs ≡ (take 15 ys ++ joined (λ i. pieceBy kind n loads costs (getD (o .levels) i 0) (o .offset) (o .rounds) i) n) ++ drop (15 + 6 * sum (λ i. between (getD (o .levels) i 0) (o .offset)) n) ys
+      → zs ≡ planBytes (ringIn kind n loads surpluses costs) ++ drop (planLength (ringIn kind n loads surpluses costs)) xs
+  laid-out f m xs ys zs ef em head wrote =
+      let r = ringIn kind n loads surpluses costs in
+      let pieces : joined (λ i. pieceBy kind n loads costs (getD (o .levels) i 0) (o .offset) (o .rounds) i) n ≡ recordsOf (plan r) =
+      (λ t. joined (λ i. pieceBy kind n loads costs (getD (is t .levels) i 0) (is t .offset) (is t .rounds) i) n) ∙ pieces-are kind n loads surpluses costs (outlineOf r .levels) level-is in
+      wrote
+      ∙ (λ t. (take 15 ys ++ pieces t) ++ drop (15 + 6 * items t) ys)
+      ∙ past-head (headBytes kind n f m) ys xs (recordsOf (plan r)) 15 (6 * moves r) (head-long kind n f m) head
+      ∙ (λ t. (headBytes kind n (ef t) (em t) ++ recordsOf (plan r)) ++ drop (15 + 6 * moves r) xs)

@@ -1,0 +1,76 @@
+-- A buffer that is written piece by piece from its front: what a callee that was lent the part from `at` on says of the part, said
+-- of the whole. Assumes nothing.
+use mathlib.Core.Path.{_≡_, refl, sym, ap, _∙_}
+use mathlib.Core.List.{List, [], _++_, append-assoc, append-nil}
+use Prim.Native.Nat.{ℕ, suc, _+_, _*_, _-_, _≤_, _<_}
+use native.Mathlib.Omega.{arith}
+use native.Mathlib.Nat.{le-refl}
+use native.Mathlib.Decide.{le-ind}
+use native.Mathlib.Numerals.{add-one}
+use lib.ListN.{length, take, drop, length-append, length-drop, drop-of-length-le, take-append-drop}
+use lib.Seq.{take-all, take-at, drop-at, drop-drop, length-take-le}
+use borrow.Rule.Slice.PartMut.{putMid, midOf}
+use Rattle.ring.specs.Numbers.{sum}
+use Rattle.ring.specs.Lists.{joined}
+
+-- what held xs begins now with p, of `at` bytes, and goes on as it was
+pub record Begins (xs p : List ℕ) (at : ℕ) (now : List ℕ) : Type 0 where
+  pub is : now ≡ p ++ drop at xs
+  pub long : length p ≡ at
+  pub same : length now ≡ length xs
+
+module _ {xs p : List ℕ} {at : ℕ} {now : List ℕ} (b : Begins xs p at now) (ys : List ℕ) (k : ℕ) (fits : at + k ≤ length xs) where
+  -- q was written at the front of the part from `at` on
+  pub grown : (q : List ℕ) → length q ≡ k → ys ≡ q ++ drop k (midOf at (length now - at) now) → Begins xs (p ++ q) (at + k) (putMid at (length now - at) now ys)
+  grown q long wrote =
+      let none : drop (length now - at) (drop at now) ≡ [] = drop-of-length-le (drop at now) {i = length now - at} (simp length-drop (omega arith)) in
+      let part : midOf at (length now - at) now ≡ drop at now = take-all (length now - at) (drop at now) (simp length-drop (omega arith)) in
+      let e : putMid at (length now - at) now ys ≡ (p ++ q) ++ drop (at + k) xs =
+      rw (none, append-nil, wrote, part) (simp (b .is, take-at p (drop at xs) at (b .long), drop-at p (drop at xs) at (b .long), drop-drop, append-assoc))
+      in
+      let l : length (p ++ q) ≡ at + k = length-append p q ∙ (λ i. b .long i + long i) in
+      record { is = e; long = l; same = rw e (simp (length-append, length-drop, b .long, long) (omega arith)) }
+
+-- piece i was written there, after those before it
+pub more : {xs : List ℕ} {at : ℕ} {now : List ℕ} (p : List ℕ) (g : ℕ → List ℕ) (i k : ℕ) (ys : List ℕ) → Begins xs (p ++ joined g i) at now → length (g i) ≡ k → at + k ≤ length xs → ys ≡ g i ++ drop k (midOf at (length now - at) now)
+    → Begins xs (p ++ joined g (i + 1)) (at + k) (putMid at (length now - at) now ys)
+unfolding joined
+more p g i k ys b long fits wrote = rw (add-one, joined, ← append-assoc p (joined g i) (g i)) (grown b ys k fits (g i) long wrote)
+
+-- the terms below n are at least those up to i
+pub sum-within : (w : ℕ → ℕ) (i n : ℕ) → i < n → sum w i + w i ≤ sum w n
+unfolding sum
+sum-within w i n h = le-ind (λ z. sum w (suc i) ≤ sum w z) (le-refl (sum w (suc i))) (λ z p q. omega arith) n h
+
+-- pieces of 6 bytes for each of w's, from byte `from` on: those below i are written, up to byte at
+pub record Written (from : ℕ) (g : ℕ → List ℕ) (w : ℕ → ℕ) (xs : List ℕ) (i at : ℕ) (now : List ℕ) : Type 0 where
+  pub up-to : at ≡ from + 6 * sum w i
+  pub front : Begins xs (take from xs ++ joined g i) at now
+
+module _ {from : ℕ} (g : ℕ → List ℕ) (w : ℕ → ℕ) (xs : List ℕ) where
+  pub none-yet : from ≤ length xs → Written from g w xs 0 from xs
+  unfolding joined sum
+  none-yet h =
+      record { up-to = omega arith; front = record { is = simp (append-nil, take-append-drop); long = simp append-nil (length-take-le from xs h); same = refl } }
+
+  pub one-more : {i at : ℕ} {now : List ℕ} (ys : List ℕ) → Written from g w xs i at now → length (g i) ≡ 6 * w i → at + 6 * w i ≤ length xs
+      → ys ≡ g i ++ drop (6 * w i) (midOf at (length now - at) now) → Written from g w xs (i + 1) (at + 6 * w i) (putMid at (length now - at) now ys)
+  unfolding sum
+  one-more {i} ys t long fits wrote =
+      record { up-to = rw (add-one, sum) (omega arith); front = more (take from xs) g i (6 * w i) ys (t .front) long fits wrote }
+
+  -- after the head, and with the last piece
+
+  -- the whole, once all are written
+  pub all-written : {i at : ℕ} {now : List ℕ} (n : ℕ) → i ≡ n → Written from g w xs i at now → now ≡ (take from xs ++ joined g n) ++ drop (from + 6 * sum w n) xs
+  all-written {i} n e t =
+      t .front .is
+      ∙ ap (λ (k : ℕ). (take from xs ++ joined g i) ++ drop k xs) (t .up-to)
+      ∙ ap (λ (k : ℕ). (take from xs ++ joined g k) ++ drop (from + 6 * sum w k) xs) e
+
+-- what was written past a head, where the head was written over zs
+pub past-head : (head xs zs js : List ℕ) (from k : ℕ) → length head ≡ from → xs ≡ head ++ drop from zs → (take from xs ++ js) ++ drop (from + k) xs ≡ (head ++ js) ++ drop (from + k) zs
+past-head head xs zs js from k long is =
+    let front : take from xs ≡ head = rw is (take-at head (drop from zs) from long) in
+    let back : drop from xs ≡ drop from zs = rw is (drop-at head (drop from zs) from long) in
+    rw (front, ← drop-drop k from xs, back, drop-drop k from zs)

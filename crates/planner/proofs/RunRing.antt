@@ -1,0 +1,54 @@
+-- The one-way ring of a job's loads and costs: the link before a link, and that the ends of sends are those of any ring of these loads and
+-- costs. Assumes nothing.
+use mathlib.Core.Path.{_≡_, refl, ap}
+use mathlib.Core.Logic.{inl, inr}
+use mathlib.Core.List.{List}
+use Prim.Native.Nat.{ℕ, zero, suc, _-_}
+use native.Mathlib.Omega.{arith}
+use mathlib.Core.Bool.{false}
+use lib.Dec.{eqb}
+use lib.ListN.{getD}
+use lib.IntN.{ℤ}
+use Rattle.ring.specs.Boards.{Ring, ringIn, Accepted, OneCost, prev}
+use Rattle.ring.specs.Plan.{endBack, endsAfter, startOf}
+use Rattle.planner.specs.Runs.{oneWay, startBack}
+
+pub prev-zero : (r : Ring) (l : ℕ) → l ≡ 0 → r .n - 1 ≡ prev r l
+prev-zero r zero e = refl
+prev-zero r (suc l) e = absurd (omega arith)
+
+pub prev-more : (r : Ring) (l : ℕ) → (l ≡ 0 → ⊥) → l - 1 ≡ prev r l
+prev-more r zero e = absurd (e refl)
+prev-more r (suc l) e = omega arith
+
+pub prev-same : (r s : Ring) (l : ℕ) → r .n ≡ s .n → prev r l ≡ prev s l
+prev-same r s zero e = omega arith
+prev-same r s (suc l) e = refl
+
+module _ (kind n : ℕ) (loads : List ℕ) (surpluses : List ℤ) (costs : List ℕ) where
+  pub back-same : (d i : ℕ) → endBack (oneWay n loads costs) d i ≡ endBack (ringIn kind n loads surpluses costs) d i
+  unfolding endBack
+  back-same zero i = refl
+  back-same (suc d) zero = ap (λ (f : ℕ → ℕ). endsAfter f (getD costs 0 0) (getD loads 0 0)) (back-same d (n - 1))
+  back-same (suc d) (suc i) = ap (λ (f : ℕ → ℕ). endsAfter f (getD costs (suc i) 0) (getD loads (suc i) 0)) (back-same d i)
+
+  -- what a planner of kinds 1 and 2 has of `runs`: the starts of document 01
+  pub starts-same : eqb kind 3 ≡ false → (i x : ℕ) → startBack (oneWay n loads costs) i x ≡ startOf (ringIn kind n loads surpluses costs) i (suc x)
+  unfolding startOf
+  starts-same one i x = rw one (ap (λ (f : ℕ → ℕ). f (suc x) - getD costs i 0) (back-same n i))
+
+  pub one-way : Accepted (ringIn kind n loads surpluses costs) → Accepted (oneWay n loads costs)
+  one-way ok =
+      record {
+        kinds = omega arith;
+        boards = ok .boards;
+        loads = ok .loads;
+        afters = ok .loads;
+        costs = ok .costs;
+        alike = λ e. absurd (other e);
+        balanced = refl;
+      }
+    where
+      other : OneCost 2 → ⊥
+      other (inl e) = omega arith
+      other (inr e) = omega arith

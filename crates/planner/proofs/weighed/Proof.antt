@@ -1,0 +1,25 @@
+use borrow.Author.Tests.{le-ltb, lt-ltb, eq-eqb, ne-eqb}
+use borrow.Author.Needs.{needs}
+use Rattle.planner.proofs.weighed.Statement.{statement}
+use Rattle.planner.proofs.weighed.Tie as tie
+
+returns : tie.Need-returns
+returns c = search (needs, le-ltb, lt-ltb, eq-eqb, ne-eqb)
+
+mul-if2 : tie.Need-mul-if2
+mul-if2 c = search needs
+
+add-if2 : tie.Need-add-if2
+add-if2 c = search needs
+
+returns-2 : tie.Need-returns-2
+returns-2 c = search (needs, le-ltb, lt-ltb, eq-eqb, ne-eqb)
+
+cast-t10 : tie.Need-cast-t10
+cast-t10 c = search needs
+
+returns-3 : tie.Need-returns-3
+returns-3 c = search (needs, le-ltb, lt-ltb, eq-eqb, ne-eqb)
+
+pub weighed-spec : {M : Type 1} → statement M
+weighed-spec = tie.close (tie.spec returns mul-if2 add-if2 returns-2 cast-t10 returns-3)

@@ -1,0 +1,46 @@
+-- What the planner answers, and what it leaves in the lent buffer, for every job that the reader answers.
+use mathlib.Core.List.{List, _++_}
+use Prim.Native.Nat.{ℕ}
+use lib.Dec.{ltb}
+use lib.ListN.{length, drop}
+use Rattle.ring.specs.Numbers.{pick}
+use Rattle.ring.specs.Boards.{Ring, ringIn}
+use Rattle.ring.specs.Plan.{finishOf, moves, tight}
+use Rattle.hop.specs.declared.Check.{Check}
+use Rattle.hop.specs.declared.Check.the-variants.{Ring as Read, Refused as Unread}
+use Rattle.hop.specs.declared.Job.{Job}
+use Rattle.planner.specs.declared.Planned.{Planned}
+use Rattle.planner.specs.declared.Planned.the-variants.{Plan, Refused}
+use Rattle.planner.specs.PlanBytes.{planBytes, planLength}
+
+-- for an accepted ring and so many bytes of room: 12 where the finish is above 4,294,967,295, 13 where the plan is longer than the
+-- room, else finish, moves and tight link
+abbrev pub answerFor : Ring → ℕ → Planned
+answerFor r room =
+    pick (ltb 4294967295 (finishOf r)) (Refused 12 0)
+    (pick (ltb room (planLength r)) (Refused 13 0) (Plan (finishOf r) (moves r) (tight r)))
+
+-- a buffer after such an answer: the plan's bytes and then what was there, or after a refusal all that was there
+abbrev pub memoryFor : Ring → Planned → List ℕ → List ℕ
+memoryFor r (Plan finish moves tight) xs = planBytes r ++ drop (planLength r) xs
+memoryFor r (Refused number board) xs = xs
+
+-- the ring of a job of this kind and n
+abbrev pub ringFor : Job → ℕ → ℕ → Ring
+ringFor job kind n = ringIn kind n (job .loads) (job .surpluses) (job .costs)
+
+-- the planner's answer to a job: the reader's refusal, or that of its ring
+abbrev pub answerBy : Job → ℕ → Check → Planned
+answerBy job room (Read kind n) = answerFor (ringFor job kind n) room
+answerBy job room (Unread number board) = Refused number board
+
+unfoldable pub planAnswer : Job → ℕ → Planned
+planAnswer job room = answerBy job room (job .answer)
+
+-- the buffer afterwards
+abbrev pub memoryBy : Job → List ℕ → Check → List ℕ
+memoryBy job xs (Read kind n) = let r = ringFor job kind n in memoryFor r (answerFor r (length xs)) xs
+memoryBy job xs (Unread number board) = xs
+
+unfoldable pub planMemory : Job → List ℕ → List ℕ
+planMemory job xs = memoryBy job xs (job .answer)

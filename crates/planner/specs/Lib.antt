@@ -1,0 +1,7 @@
+pub mod PlanBytes
+pub mod Answer
+pub mod Outline
+pub mod Runs
+pub mod RunSteps
+pub mod EvenRuns
+pub mod Links

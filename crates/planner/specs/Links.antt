@@ -1,0 +1,45 @@
+-- The records of one link, and of all links, from the numbers of a plan: its levels, offset and rounds.
+use mathlib.Core.Path.{_≡_}
+use mathlib.Core.List.{List}
+use Prim.Native.Nat.{ℕ, _+_, _*_, _-_, _≤_, _<_}
+use lib.Dec.{eqb, ltb}
+use lib.ListN.{length, getD}
+use Rattle.ring.specs.Numbers.{pick}
+use Rattle.ring.specs.Boards.{Accepted}
+use Rattle.planner.specs.PlanBytes.{linkBytes}
+use Rattle.planner.specs.Runs.{oneWay, startBack}
+
+-- the items between a link's level and the offset
+abbrev pub between : ℕ → ℕ → ℕ
+between level offset = (level - offset) + (offset - level)
+
+-- back where the level is below the offset
+abbrev pub wayBy : ℕ → ℕ → ℕ
+wayBy level offset = pick (ltb 0 (offset - level)) 1 0
+
+-- a two-way link's start of send x, from 0
+abbrev pub startTwo : ℕ → ℕ → ℕ → ℕ → ℕ → ℕ
+startTwo level offset rounds cost x = pick (ltb 0 (offset - level)) ((rounds - (offset - level) + x) * cost) (x * cost)
+
+-- the start of send x, from 0, of link i
+abbrev pub startBy : ℕ → ℕ → List ℕ → List ℕ → ℕ → ℕ → ℕ → ℕ → ℕ → ℕ
+startBy kind n loads costs level offset rounds i x =
+    pick (eqb kind 3) (startTwo level offset rounds (getD costs i 0) x) (startBack (oneWay n loads costs) i x)
+
+-- the records of link i
+abbrev pub pieceBy : ℕ → ℕ → List ℕ → List ℕ → ℕ → ℕ → ℕ → ℕ → List ℕ
+pieceBy kind n loads costs level offset rounds i =
+    linkBytes i (wayBy level offset) (startBy kind n loads costs level offset rounds i) (between level offset)
+
+-- what is known of the numbers of link i: no start passes 32 bits, and no one-way link sends back
+pub record Timely (kind n : ℕ) (loads costs : List ℕ) (level offset rounds i : ℕ) : Type 0 where
+  pub two : kind ≡ 3 → (offset - level ≤ rounds) × (rounds * getD costs i 0 < 4294967296)
+  pub one : (kind ≡ 3 → ⊥) → (offset ≤ level) × ((x : ℕ) → x < level - offset → startBack (oneWay n loads costs) i x < 4294967296)
+
+-- the lists that the links are written from: long enough, of a ring within the limits, its links timely
+pub record Linked (kind n : ℕ) (loads costs levels : List ℕ) (offset rounds : ℕ) : Type 0 where
+  pub accepted : Accepted (oneWay n loads costs)
+  pub loads-long : n ≤ length loads
+  pub costs-long : n ≤ length costs
+  pub levels-long : n ≤ length levels
+  pub timely : (i : ℕ) → i < n → Timely kind n loads costs (getD levels i 0) offset rounds i

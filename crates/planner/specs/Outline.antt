@@ -1,0 +1,62 @@
+-- The numbers of a plan, and what is known of the lists that they are worked out from.
+use mathlib.Core.Path.{_≡_}
+use mathlib.Core.List.{List, []}
+use Prim.Native.Nat.{ℕ, _+_, _*_, _-_, _≤_, _<_}
+use lib.IntN.{ℤ, pos, _-ℤ_}
+use lib.ListN.{length, getD, replicate}
+use Rattle.ring.specs.Numbers.{sum, least, greatest, peak}
+use Rattle.ring.specs.Lists.{fill}
+use Rattle.ring.specs.Boards.{Ring, Accepted, ringIn, mostLoad}
+use Rattle.ring.specs.Plan.{level, offset, rounds, moves, tight, finishOf}
+use Rattle.planner.specs.declared.sums.Span.{Span}
+use Rattle.planner.specs.declared.sums.Tally.{Tally}
+use Rattle.planner.specs.declared.sums.Outline.{Outline}
+
+-- the ring of a job's boards alone: no level depends on the kind or the costs
+abbrev pub boardsIn : ℕ → List ℕ → List ℤ → Ring
+boardsIn n loads surpluses = ringIn 0 n loads surpluses []
+
+-- the lists have a board i, whose load and load after, load − surplus, are within the limits
+pub record BoardHeld (loads : List ℕ) (surpluses : List ℤ) (i : ℕ) : Type 0 where
+  pub load-here : i < length loads
+  pub surplus-here : i < length surpluses
+  pub load-most : getD loads i 0 ≤ mostLoad
+  pub after-most : boardsIn 0 loads surpluses .after i ≤ mostLoad
+  pub after-is : pos (boardsIn 0 loads surpluses .after i) ≡ pos (getD loads i 0) -ℤ getD surpluses i (pos 0)
+
+-- the lists that an accepted job lends: they are long enough, and no load − surplus is negative
+pub record Lent (kind n : ℕ) (loads : List ℕ) (surpluses : List ℤ) (costs : List ℕ) : Type 0 where
+  pub accepted : Accepted (ringIn kind n loads surpluses costs)
+  pub loads-long : n ≤ length loads
+  pub surpluses-long : n ≤ length surpluses
+  pub costs-long : n ≤ length costs
+  pub after-is : (i : ℕ) → i < n → pos (boardsIn n loads surpluses .after i) ≡ pos (getD loads i 0) -ℤ getD surpluses i (pos 0)
+
+-- the least and the greatest of the first n of a list of levels
+abbrev pub spanOf : ℕ → List ℕ → Span
+spanOf n levels = record { low = least (λ i. getD levels i 0) (n - 1); high = greatest (λ i. getD levels i 0) (n - 1) }
+
+-- |level − offset|: the items that link i carries
+abbrev pub carriesIn : List ℕ → ℕ → ℕ → ℕ
+carriesIn levels offset i = (getD levels i 0 - offset) + (offset - getD levels i 0)
+
+-- all items carried, the lowest link that carries the most, and the longest time that a link takes for its items
+abbrev pub tallyOf : ℕ → List ℕ → ℕ → List ℕ → Tally
+tallyOf n levels offset costs =
+    record {
+      moves = sum (carriesIn levels offset) n;
+      tight = peak (carriesIn levels offset) (n - 1);
+      slowest = record { 0 = greatest (λ i. carriesIn levels offset i * getD costs i 0) (n - 1) };
+    }
+
+-- the numbers of a ring's plan
+abbrev pub outlineOf : Ring → Outline
+outlineOf r =
+    record {
+      levels = fill (level r) (r .n) (replicate 128 0);
+      offset = offset r;
+      rounds = rounds r;
+      moves = moves r;
+      tight = tight r;
+      finish = record { 0 = finishOf r };
+    }

@@ -1,0 +1,126 @@
+// The planner: from a job's bytes to a plan's bytes in a lent buffer.
+ghost use mathlib.Core.Path.{_≡_};
+ghost use Prim.Native.Nat.{_+_, _*_};
+ghost use lib.Dec.{ltb};
+ghost use lib.ListN.{length};
+ghost use Rattle.ring.specs.Numbers.{pick};
+ghost use Rattle.ring.specs.Boards.{ringIn};
+ghost use Rattle.hop.specs.Refusals.{numberOf, placeOf};
+ghost use Rattle.hop.specs.Read.{jobOf};
+ghost use Rattle.planner.specs.Answer.{answerFor, memoryFor, planAnswer, planMemory};
+ghost use Rattle.planner.specs.Outline.{Lent};
+
+mod links;
+mod records;
+mod runs;
+mod sums;
+
+use hop::Check;
+use ring::Ticks;
+
+// A plan's numbers, or why there is none.
+pub enum Planned {
+    Plan { finish: u32, moves: u32, tight: u8 },
+    Refused { number: u8, board: u8 },
+}
+
+// The refusal of a check that is no ring.
+fn stopped(check: Check) -> Planned
+    ensures { λ r. ⌜ r ≡ Planned.Refused (numberOf check) (placeOf check) ⌝ }
+{
+    Planned::Refused {
+        number: hop::number(check),
+        board: hop::board(check),
+    }
+}
+
+// Refusals 12 and 13, or the plan's numbers.
+fn weighed(finish: Ticks, moves: u32, tight: u8, room: usize) -> Planned
+    ensures { λ r. ⌜ r ≡ pick (ltb 4294967295 (finish .0)) (Planned.Refused 12 0) (pick (ltb room (15 + 6 * moves)) (Planned.Refused 13 0) (Planned.Plan (finish .0) moves tight)) ⌝ }
+{
+    let ticks = finish.0;
+    if 4294967295 < ticks {
+        return Planned::Refused {
+            number: 12,
+            board: 0,
+        };
+    }
+    if room < 15 + 6 * (moves as usize) {
+        return Planned::Refused {
+            number: 13,
+            board: 0,
+        };
+    }
+    Planned::Plan {
+        finish: ticks as u32,
+        moves,
+        tight,
+    }
+}
+
+// The plan of an accepted ring, whose numbers are lent, into a lent buffer.
+fn plan_ring(
+    kind: u8,
+    n: u8,
+    loads: &[u16],
+    surpluses: &[i16],
+    costs: &[u16],
+    buf: &mut [u8],
+) -> Planned
+    requires { ⌜ Lent kind n (now loads) (now surpluses) (now costs) ⌝ }
+    ensures { λ r. ⌜ r ≡ answerFor (ringIn kind n (now (loads .entry)) (now (surpluses .entry)) (now (costs .entry))) (length (now (buf .entry))) ⌝ }
+    ensures { λ r. ⌜ now (buf .exit) ≡ memoryFor (ringIn kind n (now (loads .entry)) (now (surpluses .entry)) (now (costs .entry))) r (now (buf .entry)) ⌝ }
+{
+    let o = sums::outline_of(kind, n as usize, loads, surpluses, costs);
+    let time = o.finish;
+    let answer = weighed(time, o.moves, o.tight, buf.len());
+    let Planned::Plan { finish, moves, .. } = answer else {
+        return answer;
+    };
+    records::put_head(buf, kind, n, finish, moves);
+    let levels = o.levels;
+    links::put_links(
+        buf,
+        kind,
+        n as usize,
+        &levels,
+        o.offset,
+        o.rounds,
+        loads,
+        costs,
+    );
+    answer
+}
+
+// What `plan` answers with so many bytes of room. Nothing is written.
+pub fn weigh(s: &[u8], room: usize) -> Planned
+    ensures { λ r. ⌜ r ≡ planAnswer (jobOf (now (s .entry))) room ⌝ }
+{
+    let job = hop::read(s);
+    let check = job.answer;
+    let Check::Ring { kind, n } = check else {
+        return stopped(check);
+    };
+    let loads = job.loads;
+    let surpluses = job.surpluses;
+    let costs = job.costs;
+    let o = sums::outline_of(kind, n as usize, &loads, &surpluses, &costs);
+    let time = o.finish;
+    weighed(time, o.moves, o.tight, room)
+}
+
+// The plan of a job into a lent buffer: its numbers, or the first refusal of 1 to 13, which leaves the buffer as it was.
+pub fn plan(s: &[u8], buf: &mut [u8]) -> Planned
+    ensures { λ r. ⌜ r ≡ planAnswer (jobOf (now (s .entry))) (length (now (buf .entry))) ⌝ }
+    ensures { λ _. ⌜ now (buf .exit) ≡ planMemory (jobOf (now (s .entry))) (now (buf .entry)) ⌝ }
+{
+    let job = hop::read(s);
+    let check = job.answer;
+    let Check::Ring { kind, n } = check else {
+        return stopped(check);
+    };
+    let loads = job.loads;
+    let surpluses = job.surpluses;
+    let costs = job.costs;
+    plan_ring(kind, n, &loads, &surpluses, &costs, buf)
+}

@@ -1,0 +1,94 @@
+// The bytes of a plan: its head, and the records of its sends.
+ghost use mathlib.Core.Path.{_≡_};
+ghost use Prim.Native.Nat.{_+_, _*_, _<_, _≤_};
+ghost use mathlib.Core.List.{_++_};
+ghost use lib.ListN.{length, drop};
+ghost use Rattle.planner.specs.PlanBytes.{sendBytes, linkBytes, headBytes};
+ghost use Rattle.planner.specs.EvenRuns.{edgeOf, Even, runsBytes};
+
+// The 15 bytes before the records, at the front of a plan's buffer.
+pub(crate) fn put_head(buf: &mut [u8], kind: u8, n: u8, finish: u32, moves: u32)
+    requires { ⌜ 15 ≤ length (now buf) ⌝ }
+    ensures { λ _. ⌜ now (buf .exit) ≡ headBytes kind n finish moves ++ drop 15 (now (buf .entry)) ⌝ }
+{
+    buf[0] = b'P';
+    buf[1] = b'L';
+    buf[2] = b'N';
+    buf[3] = 0;
+    buf[4] = 1;
+    buf[5] = kind;
+    buf[6] = n;
+    buf[7] = (finish / 65536 / 256 % 256) as u8;
+    buf[8] = (finish / 65536 % 256) as u8;
+    buf[9] = (finish / 256 % 256) as u8;
+    buf[10] = (finish % 256) as u8;
+    buf[11] = (moves / 65536 / 256 % 256) as u8;
+    buf[12] = (moves / 65536 % 256) as u8;
+    buf[13] = (moves / 256 % 256) as u8;
+    buf[14] = (moves % 256) as u8;
+}
+
+// One record at the front of a part. It holds the start's low 32 bits, which are all of it where the finish is within 32 bits.
+fn put_record(part: &mut [u8], link: u8, way: u8, start: u64)
+    requires { ⌜ 6 ≤ length (now part) ⌝ }
+    ensures { λ _. ⌜ now (part .exit) ≡ sendBytes (record { link = link; way = way; start = start }) ++ drop 6 (now (part .entry)) ⌝ }
+{
+    part[0] = link;
+    part[1] = way;
+    part[2] = (start / 65536 / 256 % 256) as u8;
+    part[3] = (start / 65536 % 256) as u8;
+    part[4] = (start / 256 % 256) as u8;
+    part[5] = (start % 256) as u8;
+}
+
+// The records of `count` sends of a link, the first at tick `first` and each other `step` ticks after the one before, at the front of
+// a part.
+pub(crate) fn put_run(part: &mut [u8], link: u8, way: u8, count: u32, first: u64, step: u16)
+    requires { ⌜ 6 * count ≤ length (now part) ⌝ }
+    requires { ⌜ (0 < count → first < 4294967296) ⌝ }
+    ensures { λ _. ⌜ now (part .exit) ≡ linkBytes link way (λ x. first + x * step) count ++ drop (6 * count) (now (part .entry)) ⌝ }
+{
+    let n = count as usize;
+    let wide = step as u64;
+    let mut start = first;
+    for x in 0..n {
+        let at = 6 * x;
+        put_record(&mut part[at..], link, way, start);
+        start += wide;
+    }
+}
+
+// Where run e of m begins, and the run before it ends: the last ends with the link's sends.
+fn edge(from: &[u32], m: usize, count: u32, e: usize) -> u32
+    requires { ⌜ m ≤ length (now from) ⌝ }
+    ensures { λ r. ⌜ r ≡ edgeOf (now (from .entry)) m count e ⌝ }
+{
+    if e < m {
+        return from[e];
+    }
+    count
+}
+
+// The records of a link whose sends come in m even runs, at the front of a part.
+pub(crate) fn put_runs(
+    part: &mut [u8],
+    link: u8,
+    way: u8,
+    count: u32,
+    from: &[u32],
+    first: &[u64],
+    step: &[u16],
+    m: usize,
+)
+    requires { ⌜ 6 * count ≤ length (now part) ⌝ }
+    requires { ⌜ Even (now from) (now first) (now step) m count ⌝ }
+    ensures { λ _. ⌜ now (part .exit) ≡ runsBytes (now (from .entry)) (now (first .entry)) (now (step .entry)) m count link way m ++ drop (6 * count) (now (part .entry)) ⌝ }
+{
+    let mut begin: u32 = 0;
+    for e in 0..m {
+        let end = edge(from, m, count, e + 1);
+        let at = 6 * (begin as usize);
+        put_run(&mut part[at..], link, way, end - begin, first[e], step[e]);
+        begin = end;
+    }
+}
