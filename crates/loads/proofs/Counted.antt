@@ -1,0 +1,105 @@
+-- Counts of a list of sends, kept in the first n places of a list, one more send at a time. Assumes nothing.
+use mathlib.Core.Path.{_≡_, refl, sym, ap, _∙_}
+use mathlib.Core.Bool.{Bool, true, false}
+use mathlib.Core.List.{List, [], _∷_, _++_}
+use Prim.Native.Nat.{ℕ, zero, suc, _+_, _≤_, _<_}
+use native.Mathlib.Numerals.{add-one}
+use native.Mathlib.Omega.{arith}
+use lib.Dec.{eqb}
+use lib.ListN.{length, getD, set, length-append, replicate, getD-replicate}
+use lib.Seq.{set-set, set-comm, set-getD}
+use borrow.Author.Tests.{eq-eqb, ne-eqb, eqb-true, eqb-false}
+use Rattle.ring.specs.Numbers.{pick, both, one-if}
+use Rattle.ring.specs.Lists.{total, count, joined, fill}
+use Rattle.ring.specs.Boards.{next}
+use Rattle.ring.specs.Worked.{upTo}
+use Rattle.ring.proofs.Tests.{one-if-le}
+use Rattle.ring.proofs.Totals.{each-all, total-le, total-append, total-length}
+use Rattle.ring.proofs.Neighbours.{next-below}
+use Rattle.ring.proofs.Fill.{fill-at}
+use Rattle.hop.proofs.Same.{fill-same}
+use Rattle.loads.specs.Counts.{linksIn}
+
+-- a list that holds the values already
+pub fill-self : (g : ℕ → ℕ) (n : ℕ) (xs : List ℕ) → ((i : ℕ) → i < n → g i ≡ getD xs i 0) → fill g n xs ≡ xs
+unfolding fill
+fill-self g zero xs h = refl
+fill-self g (suc k) xs h = (λ t. set (fill-self g k xs (λ i l. h i (omega arith)) t) k (h k (omega arith) t)) ∙ set-getD xs k 0
+
+-- one place of those filled is changed
+pub fill-set : (g h : ℕ → ℕ) (at : ℕ) → ((i : ℕ) → (i ≡ at → ⊥) → g i ≡ h i) → (n : ℕ) (xs : List ℕ) → at < n → set (fill g n xs) at (h at) ≡ fill h n xs
+unfolding fill
+fill-set g h at e zero xs l = absurd (omega arith)
+fill-set g h at e (suc k) xs l = by (λ q. fill-set g h at e k xs q) (eqb at k) refl
+  where
+    by : (at < k → set (fill g k xs) at (h at) ≡ fill h k xs) → (t : Bool) → eqb at k ≡ t → set (set (fill g k xs) k (g k)) at (h at) ≡ set (fill h k xs) k (h k)
+    by more true p =
+        let q : at ≡ k = eqb-true at k p in
+        rw q (set-set (fill g k xs) k (g k) (h k) ∙ ap (λ (l : List ℕ). set l k (h k)) (fill-same g h k xs (record { at = λ i m. e i (λ z. omega arith) })))
+    by more false p =
+        let ne : at ≡ k → ⊥ = eqb-false at k p in
+        set-comm (fill g k xs) k at (g k) (h at) (λ z. ne (sym z)) ∙ (λ t. set (more (omega arith) t) k (e k (λ z. ne (sym z)) t))
+
+module _ {A : Type 0} where
+  -- no more pass a test than there are
+  pub count-most : (p : A → Bool) (σ : List A) → count p σ ≤ length σ
+  count-most p σ = omega (arith, total-length σ, total-le (λ s. one-if (p s)) (λ s. 1) σ (each-all (λ s. one-if-le (p s)) σ))
+
+  upTo-long : (s : ℕ → A) (k : ℕ) → length (upTo s k) ≡ k
+  unfolding joined
+  upTo-long s zero = refl
+  upTo-long s (suc k) = simp (length-append, upTo-long s k) (omega arith)
+
+  module _ (who : A → ℕ) (q : A → Bool) where
+    -- how many of a list that pass the test are board i's
+    abbrev pub ofBoard : List A → ℕ → ℕ
+    ofBoard σ i = count (λ s. both (eqb (who s) i) (q s)) σ
+
+    one-more : (σ : List A) (s : A) (i : ℕ) → ofBoard (σ ++ s ∷ []) i ≡ ofBoard σ i + one-if (both (eqb (who s) i) (q s))
+    unfolding total
+    one-more σ s i = omega (arith, total-append (λ s. one-if (both (eqb (who s) i) (q s))) σ (s ∷ []))
+
+    -- the counts of the first k of a list that is given one by one, and element k, which is board `to`'s
+    module _ (s : ℕ → A) (k n : ℕ) (xs : List ℕ) {now : List ℕ} {to : ℕ} (is : now ≡ fill (ofBoard (upTo s k)) n xs) (at : to ≡ who (s k)) (h : to < n) (l : n ≤ length xs) where
+      here : getD now to 0 ≡ ofBoard (upTo s k) to
+      here = rw is (fill-at (ofBoard (upTo s k)) xs 0 n to h l)
+
+      pub room : getD now to 0 ≤ k
+      room = omega (arith, here, count-most (λ s. both (eqb (who s) to) (q s)) (upTo s k), upTo-long s k)
+
+      pub counted : (one : ℕ) → one ≡ one-if (q (s k)) → set now to (getD now to 0 + one) ≡ fill (ofBoard (upTo s (k + 1))) n xs
+      unfolding joined
+      counted one e =
+          let σ = upTo s k in
+          let own : getD now to 0 + one ≡ ofBoard (σ ++ s k ∷ []) to =
+          omega (arith, here, one-more σ (s k) to, ap (λ (b : Bool). one-if (both b (q (s k)))) (eq-eqb (who (s k)) to (sym at))) in
+          (λ t. set (is t) to (own t))
+          ∙ fill-set (ofBoard σ) (ofBoard (σ ++ s k ∷ [])) to
+          (λ i ne. omega (arith, one-more σ (s k) i, ap (λ (b : Bool). one-if (both b (q (s k)))) (ne-eqb (who (s k)) i (λ z. ne (sym z ∙ sym at))))) n xs h
+          ∙ ap (λ (τ : List A). fill (ofBoard τ) n xs) (sym (rw (add-one k)))
+
+-- no board has a count of no sends
+pub none-counted : {A : Type 0} (who : A → ℕ) (q : A → Bool) (n m : ℕ) → n ≤ m → replicate m 0 ≡ fill (ofBoard who q []) n (replicate m 0)
+unfolding total
+none-counted who q n m h = sym (fill-self (ofBoard who q []) n (replicate m 0) (λ i l. sym (getD-replicate m i 0 0 (omega arith))))
+
+-- the two boards of a link, by the direction
+pub record Between (n link way to from : ℕ) : Type 0 where
+  pub to-is : to ≡ pick (eqb way 0) (next (linksIn n []) link) link
+  pub to-in : to < n
+  pub from-is : from ≡ pick (eqb way 0) link (next (linksIn n []) link)
+  pub from-in : from < n
+
+pub between : (n link way ahead to from : ℕ) → link < n → ahead ≡ next (linksIn n []) link → to ≡ pick (eqb way 0) ahead link → from ≡ pick (eqb way 0) link ahead → Between n link way to from
+between n link way ahead to from h a t f =
+    let l : ahead < n = rw a (next-below (linksIn n []) link h) in
+    record {
+      to-is = t ∙ ap (λ (x : ℕ). pick (eqb way 0) x link) a;
+      to-in = rw t (one-of (eqb way 0) l h);
+      from-is = f ∙ ap (λ (x : ℕ). pick (eqb way 0) link x) a;
+      from-in = rw f (one-of (eqb way 0) h l);
+    }
+  where
+    one-of : (b : Bool) {x y : ℕ} → x < n → y < n → pick b x y < n
+    one-of true p q = p
+    one-of false p q = q

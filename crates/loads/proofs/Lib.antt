@@ -1,0 +1,6 @@
+pub mod Counted
+pub mod Records
+pub mod PlanRecords
+pub mod Asked
+pub mod Told
+pub mod OneAnswer

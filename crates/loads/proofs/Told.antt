@@ -1,0 +1,87 @@
+-- What is known once a job's plan stands in the buffer: each record's link is the ring's, the counts of its records are those of the
+-- plan's sends, no board has sent more than it had and received, and the differences are the loads. Assumes nothing.
+use mathlib.Core.Path.{_≡_}
+use mathlib.Core.List.{List, _++_}
+use Prim.Native.Nat.{ℕ, _≤_, _<_}
+use native.Mathlib.Omega.{arith}
+use lib.Dec.{eqb, leb}
+use lib.IntN.{ℤ}
+use lib.ListN.{length, getD, replicate, length-append}
+use Rattle.ring.specs.Numbers.{both}
+use Rattle.ring.specs.Lists.{Each, fill}
+use Rattle.ring.specs.Boards.{ringIn, Accepted}
+use Rattle.ring.specs.Schedule.{receiver, ends, receivedBy, sentBefore, loadAt}
+use Rattle.ring.specs.Plan.{plan, moves}
+use Rattle.ring.proofs.Fill.{fill-at}
+use Rattle.ring.proofs.Best.{valid, ends-at}
+use Rattle.ring.proofs.Conserve.{never-below}
+use Rattle.ring.proofs.Bounds.{moves-most, finish-most}
+use Rattle.ring.proofs.Moves.{as-many}
+use Rattle.hop.specs.declared.Check.the-variants.{Ring}
+use Rattle.hop.specs.declared.Job.{Job}
+use Rattle.hop.specs.Read.{jobOf}
+use Rattle.hop.proofs.Same.{fill-same}
+use Rattle.hop.proofs.Accepted.{job-accepted, arrays}
+use Rattle.planner.specs.declared.Planned.the-variants.{Plan}
+use Rattle.planner.specs.PlanBytes.{planBytes}
+use Rattle.planner.specs.Answer.{planAnswer, planMemory}
+use Rattle.planner.proofs.Bytes.{head-long, records-long}
+use Rattle.planner.proofs.ReadBack.{Fitting, fitting}
+use Rattle.loads.specs.declared.Counts.{Counts}
+use Rattle.loads.specs.Counts.{recordPlace, recordsIn, linksIn, countsOf, leftWith, Covered}
+use Rattle.loads.specs.Query.{loadsBy}
+use Rattle.loads.proofs.Counted.{count-most}
+use Rattle.loads.proofs.PlanRecords.{plan-read, link-read}
+use Rattle.loads.proofs.Asked.{written}
+
+pub record Told (n : ℕ) (loads costs buf : List ℕ) (m : ℕ) (whole : List ℕ → List ℕ) (c : Counts) : Type 0 where
+  pub few : n ≤ 128
+  pub loads-long : n ≤ length loads
+  pub costs-long : n ≤ length costs
+  pub placed : recordPlace m ≤ length buf
+  pub linked : (i : ℕ) → i < m → getD buf (recordPlace i) 0 < n
+  pub covered : Covered n loads c
+  pub told : (ys : List ℕ) → fill (leftWith loads c) n ys ≡ whole ys
+
+-- of a ring's lists
+module _ (kind n : ℕ) (loads : List ℕ) (surpluses : List ℤ) (costs : List ℕ) (ok : Accepted (ringIn kind n loads surpluses costs)) (rest : List ℕ) (tick : ℕ) where
+  fit : Each Fitting (plan (ringIn kind n loads surpluses costs))
+  fit =
+      let r = ringIn kind n loads surpluses costs in
+      fitting r (omega (arith, ok .boards)) (plan r) (valid r ok .allowed) (omega (arith, ends-at r ok, finish-most r ok))
+
+  told-ring : n ≤ length loads → n ≤ length costs
+      → let r = ringIn kind n loads surpluses costs in
+      Told n loads costs (planBytes r ++ rest) (moves r) (fill (λ i. loadAt r (plan r) i tick) n) (countsOf (linksIn n costs) (recordsIn (planBytes r ++ rest) (moves r)) tick)
+  unfolding loadAt
+  told-ring ll cl =
+      let r = ringIn kind n loads surpluses costs in
+      let σ = plan r in
+      let zeros : List ℕ = replicate 128 0 in
+      let few : n ≤ 128 = ok .boards .1 in
+      let got : (i : ℕ) → i < n → getD (fill (λ i. receivedBy r σ i tick) n zeros) i 0 ≡ receivedBy r σ i tick = λ i h. fill-at _ zeros 0 n i h few in
+      let gave : (i : ℕ) → i < n → getD (fill (λ i. sentBefore r σ i tick) n zeros) i 0 ≡ sentBefore r σ i tick = λ i h. fill-at _ zeros 0 n i h few in
+      rw (plan-read r fit rest)
+      (record {
+        few = few;
+        loads-long = ll;
+        costs-long = cl;
+        placed = simp (length-append, head-long, records-long, as-many r) (omega arith);
+        linked = link-read r fit rest (valid r ok .allowed);
+        covered = record {
+          small = λ i h. omega (arith, got i h, ok .loads i h, as-many r, moves-most r ok, count-most (λ x. both (eqb (receiver r x) i) (leb (ends r x) tick)) σ);
+          enough = λ i h. omega (arith, got i h, gave i h, never-below r ok σ (valid r ok) i tick);
+        };
+        told = λ ys. fill-same _ (λ i. loadAt r σ i tick) n ys (record { at = λ i h. omega (arith, got i h, gave i h) });
+      })
+
+-- of a job that is read and planned
+pub told : (s xs : List ℕ) (tick : ℕ) {k n f m t : ℕ} → jobOf s .answer ≡ Ring k n → planAnswer (jobOf s) (length xs) ≡ Plan f m t
+    → {j : Job} → j ≡ jobOf s → {buf : List ℕ} → buf ≡ planMemory (jobOf s) xs
+    → Told n (j .loads) (j .costs) buf m (loadsBy (jobOf s) (jobOf s .answer) tick) (countsOf (linksIn n (j .costs)) (recordsIn buf m) tick)
+told s xs tick {k} {n} is e p q =
+    let ok = job-accepted s k n is in
+    let long = arrays s k n is in
+    let w = written (jobOf s) xs is e in
+    rw (p, q, w .bytes, ← (w .moves-is), is)
+    (told-ring k n (jobOf s .loads) (jobOf s .surpluses) (jobOf s .costs) ok _ tick (omega (arith, ok .boards)) (omega (arith, ok .boards)))

@@ -1,0 +1,43 @@
+-- The sends that a plan's bytes say, and what each board has received and sent of them by a tick.
+use mathlib.Core.List.{List, []}
+use Prim.Native.Nat.{ℕ, _+_, _*_, _-_, _≤_, _<_}
+use lib.ListN.{getD, replicate}
+use Rattle.ring.specs.Lists.{fill}
+use Rattle.ring.specs.Boards.{Ring, ringIn}
+use Rattle.ring.specs.Schedule.{Send, receivedBy, sentBefore}
+use Rattle.ring.specs.Bytes.{wordAt}
+use Rattle.ring.specs.Worked.{upTo}
+use Rattle.loads.specs.declared.Counts.{Counts}
+
+-- the place of record k
+abbrev pub recordPlace : ℕ → ℕ
+recordPlace k = 15 + 6 * k
+
+-- the record at a place
+abbrev pub recordAt : List ℕ → ℕ → Send
+recordAt s at = record { link = getD s at 0; way = getD s (at + 1) 0; start = wordAt s (at + 2) }
+
+-- the first k records
+abbrev pub recordsIn : List ℕ → ℕ → List Send
+recordsIn s k = upTo (λ j. recordAt s (recordPlace j)) k
+
+-- n boards and the costs of their links: no receipt and no send depends on more of a ring
+abbrev pub linksIn : ℕ → List ℕ → Ring
+linksIn n costs = ringIn 0 n [] [] costs
+
+-- the receipts of each board that ended at or before the tick, and its sends that started before it
+abbrev pub countsOf : Ring → List Send → ℕ → Counts
+countsOf r σ tick =
+    record {
+      received = fill (λ i. receivedBy r σ i tick) (r .n) (replicate 128 0);
+      sent = fill (λ i. sentBefore r σ i tick) (r .n) (replicate 128 0);
+    }
+
+-- what board i is left with: its load, and what it received, less what it sent
+abbrev pub leftWith : List ℕ → Counts → ℕ → ℕ
+leftWith loads counts i = getD loads i 0 + getD (counts .received) i 0 - getD (counts .sent) i 0
+
+-- of n boards, none has more than 32 bits hold, and none has sent more than it had and received
+pub record Covered (n : ℕ) (loads : List ℕ) (counts : Counts) : Type 0 where
+  pub small : (i : ℕ) → i < n → getD loads i 0 + getD (counts .received) i 0 < 4294967296
+  pub enough : (i : ℕ) → i < n → getD (counts .sent) i 0 ≤ getD loads i 0 + getD (counts .received) i 0
