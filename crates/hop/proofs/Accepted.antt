@@ -8,17 +8,13 @@ use Rattle.ring.specs.Boards.{ringIn, Accepted}
 use Rattle.hop.specs.declared.Check.{Check}
 use Rattle.hop.specs.declared.Check.the-variants.{Ring, Refused}
 use Rattle.hop.specs.Refusals.{each, eachℤ}
-use Rattle.hop.specs.Read.{loadAt, surplusAt, costAt, headOf, bodyOf, checkOf, beside, jobOf}
-use Rattle.hop.proofs.Passed.{Passed, passed, ring-accepted}
+use Rattle.hop.specs.Read.{loadAt, surplusAt, costAt, headOf, checkOf, beside, jobOf}
+use Rattle.hop.proofs.Passed.{went-on, Passed, passed, ring-accepted}
 use Rattle.hop.proofs.Reading.{Headed, headed, lengths, check-is}
 
 answer-of : (s : List ℕ) (c : Check) → beside s c .answer ≡ c
 answer-of s (Ring k n) = refl
 answer-of s (Refused a b) = refl
-
-head-by : (s : List ℕ) (k n : ℕ) (c : Check) → bodyOf s c ≡ Ring k n → c ≡ Ring k n
-head-by s k n (Ring a b) e = let p = passed a b (loadAt s) (surplusAt s) (costAt s) k n e in λ t. Ring (p .kind-is t) (p .n-is t)
-head-by s k n (Refused a b) e = e
 
 module _ (s : List ℕ) (k n : ℕ) (e : jobOf s .answer ≡ Ring k n) where
   pub check-ring : checkOf s ≡ Ring k n
@@ -27,7 +23,10 @@ module _ (s : List ℕ) (k n : ℕ) (e : jobOf s .answer ≡ Ring k n) where
 
   pub head-ring : headOf s ≡ Ring k n
   unfolding checkOf
-  head-ring = head-by s k n (headOf s) check-ring
+  head-ring =
+      let (a, b, on, e) = went-on (headOf s) _ k n check-ring in
+      let p = passed a b (loadAt s) (surplusAt s) (costAt s) k n e in
+      on ∙ (λ t. Ring (p .kind-is t) (p .n-is t))
 
   pub job-beside : jobOf s ≡ beside s (Ring k n)
   unfolding jobOf

@@ -1,5 +1,5 @@
 -- The first board with a fault: none, one, and what follows from none. Assumes nothing.
-use mathlib.Core.Path.{_≡_, refl, _∙_}
+use mathlib.Core.Path.{_≡_, refl, sym, ap, _∙_}
 use mathlib.Core.Bool.{Bool, true, false}
 use mathlib.Core.Logic.{inl, inr}
 use Prim.Native.Nat.{ℕ, zero, suc, _+_, _<_}
@@ -11,7 +11,7 @@ use Rattle.ring.specs.Numbers.{pick}
 use Rattle.ring.proofs.Tests.{le-lt}
 use Rattle.hop.specs.declared.Check.{Check}
 use Rattle.hop.specs.declared.Check.the-variants.{Ring, Refused}
-use Rattle.hop.specs.Refusals.{unlike, faultless}
+use Rattle.hop.specs.Refusals.{unlike, goesOn, faultless}
 
 -- a test that refuses did not hold where the answer is a ring
 pub no : (t : Bool) (a b k n : ℕ) (x : Check) → pick t (Refused a b) x ≡ Ring k n → (t ≡ false) × (x ≡ Ring k n)
@@ -22,6 +22,13 @@ no false a b k n x e = (refl, e)
 pub yes : (t : Bool) (a b k n : ℕ) (x : Check) → pick t x (Refused a b) ≡ Ring k n → (t ≡ true) × (x ≡ Ring k n)
 yes true a b k n x e = (refl, e)
 yes false a b k n x e = let z : _≡_ {A = ℕ} 0 1 = cc in absurd (omega arith)
+
+-- a refusal stands, and a ring goes on
+pub stands : (c d : Check) (next : ℕ → ℕ → Check) (a b : ℕ) → c ≡ d → c ≡ Refused a b → c ≡ goesOn d next
+stands c d next a b e q = q ∙ ap (λ (x : Check). goesOn x next) (sym q ∙ e)
+
+pub goes : (d : Check) (next : ℕ → ℕ → Check) (k n : ℕ) → d ≡ Ring k n → next k n ≡ goesOn d next
+goes d next k n q = ap (λ (x : Check). goesOn x next) (sym q)
 
 -- none below k has a fault
 pub record Sound (f : ℕ → ℕ) (k : ℕ) : Type 0 where

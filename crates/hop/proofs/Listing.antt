@@ -12,36 +12,39 @@ use Rattle.hop.specs.declared.Check.{Check}
 use Rattle.hop.specs.declared.Check.the-variants.{Ring, Refused}
 use Rattle.hop.specs.declared.Written.{Written}
 use Rattle.hop.specs.declared.Written.the-variants.{Bytes, Refused as Unwritten}
-use Rattle.hop.specs.Refusals.{each, eachℤ, unlike, ringCheck}
+use Rattle.hop.specs.Refusals.{each, eachℤ, unlike, shapeOf, ringCheck}
 use Rattle.hop.specs.Read.{jobLength}
 use Rattle.hop.specs.Write.{jobBytes, listsOf, roomOf, writtenOf, bufferBy, bufferOf}
 use Rattle.hop.proofs.First.{yes}
-use Rattle.hop.proofs.Passed.{shaped, Passed, passed}
+use Rattle.hop.proofs.Passed.{went-on, shaped, passed}
 
 module _ (kind : ℕ) (loads : List ℕ) (surpluses : List ℤ) (costs : List ℕ) where
-  abbrev checked : Check
-  checked = ringCheck kind (length loads) (each loads) (eachℤ surpluses) (each costs)
-
   pub record Listed (k n : ℕ) : Type 0 where
     pub kinds : Within 1 3 kind
     pub boards : Within 2 128 (length loads)
     pub surpluses-long : length surpluses ≡ length loads
     pub costs-long : length costs ≡ length loads
-    pub pass : Passed kind (length loads) (each loads) (eachℤ surpluses) (each costs) k n
-    pub check-is : checked ≡ Ring k n
+    pub kind-is : kind ≡ k
+    pub n-is : length loads ≡ n
+    pub check-is : ringCheck kind (length loads) (each loads) (eachℤ surpluses) (each costs) ≡ Ring kind (length loads)
 
   pub listed : (k n : ℕ) → listsOf kind loads surpluses costs ≡ Ring k n → Listed k n
   listed k n e =
-      let a = shaped kind (length loads) k n (unlike (length surpluses) (length loads) (Refused 6 0) (unlike (length costs) (length loads) (Refused 6 0) checked)) e in
-      let b = yes (eqb (length surpluses) (length loads)) 6 0 k n (unlike (length costs) (length loads) (Refused 6 0) checked) (a .2) in
-      let c = yes (eqb (length costs) (length loads)) 6 0 k n checked (b .1) in
+      let check : ℕ → ℕ → Check = λ a b. ringCheck a b (each loads) (eachℤ surpluses) (each costs) in
+      let (a, b, on, f) = went-on (shapeOf kind (length loads)) (λ a b. unlike (length surpluses) b (Refused 6 0) (unlike (length costs) b (Refused 6 0) (check a b))) k n e in
+      let s = shaped kind (length loads) a b on in
+      let g = yes (eqb (length surpluses) b) 6 0 k n (unlike (length costs) b (Refused 6 0) (check a b)) f in
+      let h = yes (eqb (length costs) b) 6 0 k n (check a b) (g .1) in
+      let p = passed a b (each loads) (eachℤ surpluses) (each costs) k n (h .1) in
+      let same : check a b ≡ Ring a b = h .1 ∙ sym (λ t. Ring (p .kind-is t) (p .n-is t)) in
       record {
-        kinds = a .0;
-        boards = a .1;
-        surpluses-long = eqb-true (length surpluses) (length loads) (b .0);
-        costs-long = eqb-true (length costs) (length loads) (c .0);
-        pass = passed kind (length loads) (each loads) (eachℤ surpluses) (each costs) k n (c .1);
-        check-is = c .1;
+        kinds = s .kinds;
+        boards = s .boards;
+        surpluses-long = eqb-true (length surpluses) b (g .0) ∙ sym (s .n-is);
+        costs-long = eqb-true (length costs) b (h .0) ∙ sym (s .n-is);
+        kind-is = s .kind-is ∙ p .kind-is;
+        n-is = s .n-is ∙ p .n-is;
+        check-is = (λ t. check (s .kind-is t) (s .n-is t)) ∙ same ∙ sym (λ t. Ring (s .kind-is t) (s .n-is t));
       }
 
   module _ (buf : List ℕ) where
@@ -68,7 +71,7 @@ module _ (kind : ℕ) (loads : List ℕ) (surpluses : List ℤ) (costs : List �
 
       pub wrote : at ≤ length buf → (now : List ℕ) → now ≡ jobBytes kind n (each loads) (eachℤ surpluses) (each costs) ++ drop (jobLength n) buf → Ends (Bytes at) now
       wrote h now b =
-          let p = sym (listed k n e .pass .n-is) in
+          let p = sym (listed k n e .n-is) in
           rw is
           (ends (Bytes (jobLength n)) now (ap (roomOf (length buf)) e ∙ rw (le-ltb (length buf) (jobLength n) (omega arith)))
           (b ∙ (λ t. jobBytes kind (p t) (each loads) (eachℤ surpluses) (each costs) ++ drop (jobLength n) buf)))

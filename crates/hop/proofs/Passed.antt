@@ -6,14 +6,14 @@ use Prim.Native.Nat.{ℕ, zero, suc, _+_, _<_}
 use native.Mathlib.Omega.{arith}
 use lib.Dec.{ltb, eqb}
 use lib.IntN.{ℤ, pos, negsuc, natAbs, _+ℤ_, _-ℤ_, +ℤ-idr, +ℤ-assoc, +ℤ-comm, -ℤ-+ℤ-cancel}
-use borrow.Author.Tests.{ltb-false, eqb-true}
+use borrow.Author.Tests.{le-ltb, ltb-false, eqb-true}
 use Rattle.ring.specs.Numbers.{pick, sum, sumℤ}
 use Rattle.ring.specs.Boards.{ringOf, Within, OneCost, Accepted}
 use Rattle.ring.specs.Limits.{outside}
 use Rattle.ring.proofs.Sound.{Sane, sane}
 use Rattle.hop.specs.declared.Check.{Check}
 use Rattle.hop.specs.declared.Check.the-variants.{Ring, Refused}
-use Rattle.hop.specs.Refusals.{shape, faultless, boardFault, costFault, balancedOf, alikeOf, ringCheck}
+use Rattle.hop.specs.Refusals.{goesOn, shapeOf, faultless, boardFault, costFault, balancedOf, alikeOf, ringCheck}
 use Rattle.hop.proofs.First.{no, yes, clear}
 
 within : (lo hi x a b k n : ℕ) (next : Check) → outside lo hi x (Refused a b) next ≡ Ring k n → Within lo hi x × (next ≡ Ring k n)
@@ -22,11 +22,27 @@ within lo hi x a b k n next e =
     let q = no (ltb hi x) a b k n next (p .1) in
     ((ltb-false x lo (p .0), ltb-false hi x (q .0)), q .1)
 
-pub shaped : (kind n k m : ℕ) (next : Check) → shape kind n next ≡ Ring k m → Within 1 3 kind × Within 2 128 n × (next ≡ Ring k m)
-shaped kind n k m next e =
-    let p = within 1 3 kind 4 0 k m (outside 2 128 n (Refused 5 0) next) e in
-    let q = within 2 128 n 5 0 k m next (p .1) in
-    (p .0, q .0, q .1)
+-- a ring that goes on was one already
+pub went-on : (c : Check) (next : ℕ → ℕ → Check) (k n : ℕ) → goesOn c next ≡ Ring k n → (a : ℕ) × (b : ℕ) × (c ≡ Ring a b) × (next a b ≡ Ring k n)
+went-on (Ring a b) next k n e = (a, b, refl, e)
+went-on (Refused a b) next k n e = let z : _≡_ {A = ℕ} 0 1 = cc in absurd (omega arith)
+
+pub record Shaped (kind n k m : ℕ) : Type 0 where
+  pub kinds : Within 1 3 kind
+  pub boards : Within 2 128 n
+  pub kind-is : kind ≡ k
+  pub n-is : n ≡ m
+
+pub shaped : (kind n k m : ℕ) → shapeOf kind n ≡ Ring k m → Shaped kind n k m
+shaped kind n k m e =
+    let p = within 1 3 kind 4 0 k m (outside 2 128 n (Refused 5 0) (Ring kind n)) e in
+    let q = within 2 128 n 5 0 k m (Ring kind n) (p .1) in
+    let r : Ring kind n ≡ Ring k m = q .1 in
+    record { kinds = p .0; boards = q .0; kind-is = cc; n-is = cc }
+
+-- within its limits, the shape is the ring
+pub shape-ring : (kind n : ℕ) → Within 1 3 kind → Within 2 128 n → shapeOf kind n ≡ Ring kind n
+shape-ring kind n ks bs = rw (le-ltb kind 1 (ks .0), le-ltb 3 kind (ks .1), le-ltb n 2 (bs .0), le-ltb 128 n (bs .1))
 
 -- loads after and surpluses add up to the loads
 sums : (load : ℕ → ℕ) (surplus : ℕ → ℤ) (n : ℕ) → ((i : ℕ) → i < n → pos (natAbs (pos (load i) -ℤ surplus i)) ≡ pos (load i) -ℤ surplus i)

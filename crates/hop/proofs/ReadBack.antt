@@ -1,5 +1,5 @@
 -- A job's bytes are read back as its kind and its numbers. Assumes nothing.
-use mathlib.Core.Path.{_≡_, refl, ap, _∙_}
+use mathlib.Core.Path.{_≡_, refl, sym, ap, _∙_}
 use mathlib.Core.List.{List, _++_}
 use Prim.Native.Nat.{ℕ, suc, _+_, _*_, _/_, _%_, _<_}
 use native.Mathlib.Omega.{arith}
@@ -17,11 +17,12 @@ use Rattle.ring.specs.Bytes.{halfAt}
 use Rattle.ring.proofs.Sound.{Sane}
 use Rattle.hop.specs.declared.Check.the-variants.{Ring}
 use Rattle.hop.specs.Refusals.{ringCheck}
-use Rattle.hop.specs.Read.{jobLength, loadAt, surplusAt, costAt, headOf, bodyOf, checkOf, holding, beside, jobOf}
+use Rattle.hop.specs.Read.{jobLength, loadAt, surplusAt, costAt, headOf, checkOf, holding, beside, jobOf}
 use Rattle.hop.specs.Write.{headBytes, boardBytes, jobBytes}
 use Rattle.hop.proofs.Pieces.{joined-long, joined-at}
 use Rattle.hop.proofs.Same.{Below, fill-same, check-same}
-use Rattle.hop.proofs.Passed.{passed}
+use Rattle.hop.proofs.Passed.{shape-ring, passed}
+use Rattle.hop.proofs.First.{goes}
 
 half-back : (x : ℕ) → x < 65536 → x / 256 % 256 * 256 + x % 256 ≡ x
 half-back x h = omega arith
@@ -36,14 +37,8 @@ small l a (negsuc m) hl ha e = let r : a ≡ l + suc m = cc in omega arith
 
 head-of : (kind n : ℕ) (rest : List ℕ) → Within 1 3 kind → Within 2 128 n → length rest ≡ 6 * n → headOf (headBytes kind n ++ rest) ≡ Ring kind n
 head-of kind n rest ks bs e =
-    simp (
-      le-ltb (length (headBytes kind n ++ rest)) 7 (omega arith),
-      le-ltb kind 1 (ks .0),
-      le-ltb 3 kind (ks .1),
-      le-ltb n 2 (bs .0),
-      le-ltb 128 n (bs .1),
-      eq-eqb (length (headBytes kind n ++ rest)) (jobLength n) (omega arith),
-    )
+    let long : length (headBytes kind n ++ rest) ≡ jobLength n = omega arith in
+    rw (le-ltb (length (headBytes kind n ++ rest)) 7 (omega arith), shape-ring kind n ks bs, eq-eqb (length (headBytes kind n ++ rest)) (jobLength n) long)
 
 module _ (kind n : ℕ) (load : ℕ → ℕ) (surplus : ℕ → ℤ) (cost : ℕ → ℕ) where
   pub bytes-long : length (jobBytes kind n load surplus cost) ≡ jobLength n
@@ -87,7 +82,7 @@ module _ (kind n : ℕ) (load : ℕ → ℕ) (surplus : ℕ → ℤ) (cost : ℕ
     job-back =
         let s = jobBytes kind n load surplus cost in
         let e : checkOf s ≡ Ring kind n =
-        ap (bodyOf s) head-back
+        sym (goes (headOf s) _ kind n head-back)
         ∙ check-same kind n (omega arith) (loadAt s) load (surplusAt s) surplus (costAt s) cost loads-back surpluses-back costs-back
         ∙ is in
         ap (beside s) e

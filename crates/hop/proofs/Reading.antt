@@ -13,11 +13,11 @@ use Rattle.ring.proofs.Fill.{fill-at, fill-length}
 use Rattle.hop.specs.declared.Check.{Check}
 use Rattle.hop.specs.declared.Check.the-variants.{Ring, Refused}
 use Rattle.hop.specs.declared.Job.{Job}
-use Rattle.hop.specs.Refusals.{each, eachℤ, unlike, ringCheck}
-use Rattle.hop.specs.Read.{jobLength, loadAt, surplusAt, costAt, sizesOf, markOf, headOf, bodyOf, checkOf, bare, beside, jobOf}
-use Rattle.hop.proofs.First.{no, yes}
+use Rattle.hop.specs.Refusals.{each, eachℤ, unlike, shapeOf, ringCheck}
+use Rattle.hop.specs.Read.{jobLength, loadAt, surplusAt, costAt, sizesOf, markOf, headOf, checkOf, bare, beside, jobOf}
+use Rattle.hop.proofs.First.{no, yes, stands, goes}
 use Rattle.hop.proofs.Same.{Below, check-same}
-use Rattle.hop.proofs.Passed.{shaped, passed}
+use Rattle.hop.proofs.Passed.{went-on, shaped, passed}
 
 module _ (s : List ℕ) where
   -- what the first seven bytes of a ring say
@@ -41,11 +41,13 @@ module _ (s : List ℕ) where
       let e2 = yes (eqb (getD s 1 0) 79) 2 0 k n (unlike (getD s 2 0) 80 (Refused 2 0) (unlike (halfAt s 3) 1 (Refused 3 0) (sizesOf s))) (e1 .1) in
       let e3 = yes (eqb (getD s 2 0) 80) 2 0 k n (unlike (halfAt s 3) 1 (Refused 3 0) (sizesOf s)) (e2 .1) in
       let e4 = yes (eqb (halfAt s 3) 1) 3 0 k n (sizesOf s) (e3 .1) in
-      let e5 = shaped K N k n (unlike (length s) (jobLength N) (Refused 6 0) (Ring K N)) (e4 .1) in
-      let e6 = yes (eqb (length s) (jobLength N)) 6 0 k n (Ring K N) (e5 .2) in
-      let r : Ring K N ≡ Ring k n = e6 .1 in
+      let (a, b, on, e5) = went-on (shapeOf K N) (λ a b. unlike (length s) (jobLength b) (Refused 6 0) (Ring a b)) k n (e4 .1) in
+      let e6 = yes (eqb (length s) (jobLength b)) 6 0 k n (Ring a b) e5 in
+      let f = shaped K N a b on in
+      let r : Ring a b ≡ Ring k n = e6 .1 in
       let i : K ≡ k = cc in
       let j : N ≡ n = cc in
+      let l : b ≡ n = cc in
       record {
         h = eqb-true (getD s 0 0) 72 (e1 .0);
         o = eqb-true (getD s 1 0) 79 (e2 .0);
@@ -53,9 +55,9 @@ module _ (s : List ℕ) where
         version = eqb-true (halfAt s 3) 1 (e4 .0);
         kind-is = i;
         n-is = j;
-        kinds = rw i at (e5 .0);
-        boards = rw j at (e5 .1);
-        whole = eqb-true (length s) (jobLength N) (e6 .0) ∙ ap jobLength j;
+        kinds = rw i at (f .kinds);
+        boards = rw j at (f .boards);
+        whole = eqb-true (length s) (jobLength b) (e6 .0) ∙ ap jobLength l;
       }
 
   -- a refusal has zeros beside it
@@ -65,7 +67,7 @@ module _ (s : List ℕ) where
 
   pub head-refused : (c : Check) (a b : ℕ) → c ≡ headOf s → c ≡ Refused a b → bare c ≡ jobOf s
   unfolding checkOf
-  head-refused c a b e q = refused c a b (q ∙ ap (bodyOf s) (sym q ∙ e)) q
+  head-refused c a b e q = refused c a b (stands c (headOf s) _ a b e q) q
 
   module _ (k n : ℕ) (d : headOf s ≡ Ring k n) (j : Job) (is : j ≡ beside s (Ring k n)) where
     pub lengths : (length (j .loads) ≡ 128) × (length (j .surpluses) ≡ 128) × (length (j .costs) ≡ 128)
@@ -91,7 +93,7 @@ module _ (s : List ℕ) where
         let h = headed k n d .boards in
         check-same k n (omega arith) (each (j .loads)) (loadAt s) (eachℤ (j .surpluses)) (surplusAt s) (each (j .costs)) (costAt s)
         (loads-are (h .1)) (surpluses-are (h .1)) (costs-are (h .1))
-        ∙ sym (ap (bodyOf s) d)
+        ∙ goes (headOf s) _ k n d
 
     pub job-is : (a b : ℕ) → checkOf s ≡ Ring a b → j ≡ jobOf s
     unfolding jobOf

@@ -8,7 +8,7 @@ use lib.Dec.{ltb}
 use lib.IntN.{ℤ, pos}
 use lib.ListN.{length, getD, take, drop}
 use lib.Seq.{take-at, length-take-le, getD-take}
-use borrow.Author.Tests.{le-ltb, eq-eqb}
+use borrow.Author.Tests.{eq-eqb}
 use Rattle.ring.specs.Numbers.{pick}
 use Rattle.ring.specs.Boards.{Within}
 use Rattle.hop.specs.declared.Check.{Check}
@@ -16,8 +16,10 @@ use Rattle.hop.specs.declared.Check.the-variants.{Ring, Refused}
 use Rattle.hop.specs.declared.Written.{Written}
 use Rattle.hop.specs.declared.Written.the-variants.{Bytes, Refused as Unwritten}
 use Rattle.hop.specs.Refusals.{each, eachℤ, ringCheck}
-use Rattle.hop.specs.Read.{jobLength, loadAt, surplusAt, costAt, bodyOf, checkOf, holding, jobOf}
+use Rattle.hop.specs.Read.{jobLength, loadAt, surplusAt, costAt, headOf, checkOf, holding, jobOf}
 use Rattle.hop.specs.Write.{headBytes, recordBytes, boardBytes, jobBytes, listsOf, roomOf, writtenOf, bufferBy, bufferOf}
+use Rattle.hop.proofs.First.{goes}
+use Rattle.hop.proofs.Passed.{shape-ring}
 use Rattle.hop.proofs.Pieces.{joined-same}
 use Rattle.hop.proofs.Same.{Below, check-same}
 use Rattle.hop.proofs.Reading.{loads-are, surpluses-are, costs-are}
@@ -49,27 +51,17 @@ unfolding writtenOf bufferOf
 read-back kind loads surpluses costs buf len e =
     let w = passes (length buf) len (listsOf kind loads surpluses costs) e in
     let l = listed kind loads surpluses costs (w .kind) (w .n) (w .ring) in
-    let p = sym (l .pass .kind-is) in
-    let q = sym (l .pass .n-is) in
     let bytes = jobBytes kind (length loads) (each loads) (eachℤ surpluses) (each costs) in
-    let long : length bytes ≡ len = bytes-long kind (length loads) (each loads) (eachℤ surpluses) (each costs) ∙ ap jobLength (l .pass .n-is) ∙ w .long in
+    let long : length bytes ≡ len = bytes-long kind (length loads) (each loads) (eachℤ surpluses) (each costs) ∙ ap jobLength (l .n-is) ∙ w .long in
     ap (λ (x : Written). jobOf (take len (bufferBy x bytes buf))) e
     ∙ ap jobOf (take-at bytes (drop len buf) len long)
-    ∙ job-back kind (length loads) (each loads) (eachℤ surpluses) (each costs) (l .kinds) (l .boards) (l .check-is ∙ (λ t. Ring (p t) (q t)))
+    ∙ job-back kind (length loads) (each loads) (eachℤ surpluses) (each costs) (l .kinds) (l .boards) (l .check-is)
 
 -- lists of one length that pass
 lists-ring : (kind n : ℕ) (loads : List ℕ) (surpluses : List ℤ) (costs : List ℕ) → length loads ≡ n → length surpluses ≡ n → length costs ≡ n → Within 1 3 kind → Within 2 128 n
     → ringCheck kind n (each loads) (eachℤ surpluses) (each costs) ≡ Ring kind n → listsOf kind loads surpluses costs ≡ Ring kind n
 lists-ring kind n loads surpluses costs l z c ks bs e =
-    simp (
-      le-ltb kind 1 (ks .0),
-      le-ltb 3 kind (ks .1),
-      le-ltb (length loads) 2 (omega arith),
-      le-ltb 128 (length loads) (omega arith),
-      eq-eqb (length surpluses) (length loads) (omega arith),
-      eq-eqb (length costs) (length loads) (omega arith),
-    )
-    (ap (λ (m : ℕ). ringCheck kind m (each loads) (eachℤ surpluses) (each costs)) l ∙ e)
+    rw (l, shape-ring kind n ks bs, eq-eqb (length surpluses) n z, eq-eqb (length costs) n c) e
 
 -- what the reader accepted, written again, gives the same bytes
 module _ (s : List ℕ) (bytes : (i : ℕ) → getD s i 0 < 256) (k n : ℕ) (e : jobOf s .answer ≡ Ring k n) where
@@ -89,7 +81,7 @@ module _ (s : List ℕ) (bytes : (i : ℕ) → getD s i 0 < 256) (k n : ℕ) (e 
       let sz : Below (eachℤ zs) (surplusAt s) n = record { at = λ i l. getD-take n (jobOf s .surpluses) i (pos 0) l ∙ surpluses-are s k n f (jobOf s) b (h .boards .1) .at i l } in
       let sc : Below (each cs) (costAt s) n = record { at = λ i l. getD-take n (jobOf s .costs) i 0 l ∙ costs-are s k n f (jobOf s) b (h .boards .1) .at i l } in
       let is : ringCheck k n (each xs) (eachℤ zs) (each cs) ≡ Ring k n =
-      check-same k n (omega arith) (each xs) (loadAt s) (eachℤ zs) (surplusAt s) (each cs) (costAt s) sl sz sc ∙ sym (ap (bodyOf s) f) ∙ check-ring s k n e in
+      check-same k n (omega arith) (each xs) (loadAt s) (eachℤ zs) (surplusAt s) (each cs) (costAt s) sl sz sc ∙ goes (headOf s) _ k n f ∙ check-ring s k n e in
       let ring = lists-ring k n xs zs cs (length-take-le n (jobOf s .loads) (omega arith)) (length-take-le n (jobOf s .surpluses) (omega arith)) (length-take-le n (jobOf s .costs) (omega arith)) (h .kinds) (h .boards) is in
       let same : s ≡ jobBytes k n (each xs) (eachℤ zs) (each cs) =
       sym (ap (λ (r : List ℕ). headBytes k n ++ r) (joined-same (boardBytes (each xs) (eachℤ zs) (each cs)) (boardBytes (loadAt s) (surplusAt s) (costAt s)) n

@@ -13,7 +13,7 @@ use Rattle.ring.specs.Bytes.{halfAt}
 use Rattle.hop.specs.declared.Check.{Check}
 use Rattle.hop.specs.declared.Check.the-variants.{Ring, Refused}
 use Rattle.hop.specs.declared.Job.{Job}
-use Rattle.hop.specs.Refusals.{unlike, shape, ringCheck}
+use Rattle.hop.specs.Refusals.{unlike, goesOn, shapeOf, ringCheck}
 
 -- the length of a job of n boards, and so the place of board n's numbers in a longer one
 abbrev pub jobLength : ℕ → ℕ
@@ -31,9 +31,7 @@ costAt s i = halfAt s (jobLength i + 4)
 
 -- refusals 4 to 6, or the kind and n
 abbrev pub sizesOf : List ℕ → Check
-sizesOf s =
-    shape (getD s 5 0) (getD s 6 0)
-    (unlike (length s) (jobLength (getD s 6 0)) (Refused 6 0) (Ring (getD s 5 0) (getD s 6 0)))
+sizesOf s = goesOn (shapeOf (getD s 5 0) (getD s 6 0)) (λ kind n. unlike (length s) (jobLength n) (Refused 6 0) (Ring kind n))
 
 -- 2 where the mark is not "HOP", 3 where the version is not 1, then the rest
 abbrev pub markOf : List ℕ → Check
@@ -47,14 +45,9 @@ markOf s =
 abbrev pub headOf : List ℕ → Check
 headOf s = pick (ltb (length s) 7) (Refused 1 0) (markOf s)
 
--- refusals 7 to 11 after them
-abbrev pub bodyOf : List ℕ → Check → Check
-bodyOf s (Ring kind n) = ringCheck kind n (loadAt s) (surplusAt s) (costAt s)
-bodyOf s (Refused number board) = Refused number board
-
--- the reader's answer: refusals 1 to 11, or the kind and n
+-- the reader's answer: refusals 1 to 6, then 7 to 11, or the kind and n
 unfoldable pub checkOf : List ℕ → Check
-checkOf s = bodyOf s (headOf s)
+checkOf s = goesOn (headOf s) (λ kind n. ringCheck kind n (loadAt s) (surplusAt s) (costAt s))
 
 -- a ring with its boards' numbers beside it, and zeros after them
 abbrev pub holding : ℕ → ℕ → (ℕ → ℕ) → (ℕ → ℤ) → (ℕ → ℕ) → Job

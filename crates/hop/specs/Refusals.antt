@@ -30,9 +30,14 @@ eachℤ xs i = getD xs i (pos 0)
 abbrev pub unlike : {A : Type 0} → ℕ → ℕ → A → A → A
 unlike x y a b = pick (eqb x y) b a
 
--- 4 where the kind is not 1, 2 or 3; 5 where n is not 2 to 128; else next
-abbrev pub shape : ℕ → ℕ → Check → Check
-shape kind n next = outside 1 3 kind (Refused 4 0) (outside 2 128 n (Refused 5 0) next)
+-- a refusal stands; a ring goes on to the next refusals
+abbrev pub goesOn : Check → (ℕ → ℕ → Check) → Check
+goesOn (Ring kind n) next = next kind n
+goesOn (Refused number board) next = Refused number board
+
+-- 4 where the kind is not 1, 2 or 3; 5 where n is not 2 to 128; or the ring
+abbrev pub shapeOf : ℕ → ℕ → Check
+shapeOf kind n = outside 1 3 kind (Refused 4 0) (outside 2 128 n (Refused 5 0) (Ring kind n))
 
 -- refused by the first board below n that has a fault, else next
 unfoldable pub faultless : (ℕ → ℕ) → ℕ → Check → Check

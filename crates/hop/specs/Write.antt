@@ -14,7 +14,7 @@ use Rattle.hop.specs.declared.Check.{Check}
 use Rattle.hop.specs.declared.Check.the-variants.{Ring, Refused}
 use Rattle.hop.specs.declared.Written.{Written}
 use Rattle.hop.specs.declared.Written.the-variants.{Bytes, Refused as Unwritten}
-use Rattle.hop.specs.Refusals.{each, eachℤ, unlike, shape, ringCheck}
+use Rattle.hop.specs.Refusals.{each, eachℤ, unlike, goesOn, shapeOf, ringCheck}
 use Rattle.hop.specs.Read.{jobLength}
 
 -- mark "HOP", version 1, kind, n
@@ -36,10 +36,9 @@ jobBytes kind n load surplus cost = headBytes kind n ++ joined (boardBytes load 
 -- 4; 5 for the first list's length; 6 where another's differs; 7 to 11; or the ring
 abbrev pub listsOf : ℕ → List ℕ → List ℤ → List ℕ → Check
 listsOf kind loads surpluses costs =
-    shape kind (length loads)
-    (unlike (length surpluses) (length loads) (Refused 6 0)
-    (unlike (length costs) (length loads) (Refused 6 0)
-    (ringCheck kind (length loads) (each loads) (eachℤ surpluses) (each costs))))
+    goesOn (shapeOf kind (length loads))
+    (λ kind n. unlike (length surpluses) n (Refused 6 0)
+    (unlike (length costs) n (Refused 6 0) (ringCheck kind n (each loads) (eachℤ surpluses) (each costs))))
 
 -- then 13 where the buffer has too little room; or the length written
 abbrev pub roomOf : ℕ → Check → Written

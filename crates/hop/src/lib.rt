@@ -6,7 +6,7 @@ ghost use mir.Syntax.{w16};
 ghost use mir.Val.{toZ, ofZ};
 ghost use Rattle.ring.specs.Numbers.{sumℤ};
 ghost use Rattle.ring.specs.Bytes.{halfAt};
-ghost use Rattle.hop.specs.Refusals.{numberOf, placeOf, each, eachℤ, ringCheck, alikeOf, balancedOf};
+ghost use Rattle.hop.specs.Refusals.{numberOf, placeOf, each, eachℤ, shapeOf, ringCheck, alikeOf, balancedOf};
 ghost use Rattle.hop.specs.Read.{jobLength, sizesOf, markOf, headOf, bare, beside, jobOf};
 ghost use Rattle.hop.specs.Write.{headBytes, recordBytes, jobBytes, listsOf, writtenOf, bufferOf};
 
@@ -77,12 +77,10 @@ fn signed(bits: u16) -> i16
     }
 }
 
-// Refusals 4 to 6, or the kind and n.
-fn sizes(s: &[u8]) -> Check
-    requires { ⌜ 7 ≤ length (now s) ⌝ }
-    ensures { λ r. ⌜ r ≡ sizesOf (now (s .entry)) ⌝ }
+// Refusals 4 and 5, or the kind and n.
+fn shape(kind: u8, n: usize) -> Check
+    ensures { λ r. ⌜ r ≡ shapeOf kind n ⌝ }
 {
-    let kind = s[5];
     if kind < 1 {
         return Check::Refused {
             number: 4,
@@ -95,7 +93,6 @@ fn sizes(s: &[u8]) -> Check
             board: 0,
         };
     }
-    let n = s[6];
     if n < 2 {
         return Check::Refused {
             number: 5,
@@ -108,6 +105,18 @@ fn sizes(s: &[u8]) -> Check
             board: 0,
         };
     }
+    Check::Ring { kind, n: n as u8 }
+}
+
+// Refusals 4 to 6, or the kind and n.
+fn sizes(s: &[u8]) -> Check
+    requires { ⌜ 7 ≤ length (now s) ⌝ }
+    ensures { λ r. ⌜ r ≡ sizesOf (now (s .entry)) ⌝ }
+{
+    let shaped = shape(s[5], s[6] as usize);
+    let Check::Ring { kind, n } = shaped else {
+        return shaped;
+    };
     if s.len() != job_length(n) {
         return Check::Refused {
             number: 6,
@@ -299,44 +308,24 @@ fn unsigned(x: i16) -> u16
 fn lists(kind: u8, loads: &[u16], surpluses: &[i16], costs: &[u16]) -> Check
     ensures { λ r. ⌜ r ≡ listsOf kind (now (loads .entry)) (now (surpluses .entry)) (now (costs .entry)) ⌝ }
 {
-    if kind < 1 {
-        return Check::Refused {
-            number: 4,
-            board: 0,
-        };
-    }
-    if 3 < kind {
-        return Check::Refused {
-            number: 4,
-            board: 0,
-        };
-    }
-    let count = loads.len();
-    if count < 2 {
-        return Check::Refused {
-            number: 5,
-            board: 0,
-        };
-    }
-    if 128 < count {
-        return Check::Refused {
-            number: 5,
-            board: 0,
-        };
-    }
-    if surpluses.len() != count {
+    let shaped = shape(kind, loads.len());
+    let Check::Ring { kind, n } = shaped else {
+        return shaped;
+    };
+    let many = n as usize;
+    if surpluses.len() != many {
         return Check::Refused {
             number: 6,
             board: 0,
         };
     }
-    if costs.len() != count {
+    if costs.len() != many {
         return Check::Refused {
             number: 6,
             board: 0,
         };
     }
-    boards(kind, count as u8, loads, surpluses, costs)
+    boards(kind, n, loads, surpluses, costs)
 }
 
 // The first seven bytes of a job.

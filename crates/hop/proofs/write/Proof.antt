@@ -41,7 +41,7 @@ put-requires c κs =
     let n = j .before .before in
     let a = n .before .before .before .before .before .before .args in
     let l = listed (a .kind) (now (a .loads)) (now (a .surpluses)) (now (a .costs)) (n .n .given .0 .0) (n .n .given .0 .1 .0) (ring n) in
-    omega (arith, l .pass .n-is)
+    omega arith
 
 returns-2 : tie.Need-returns-2
 returns-2 c =
