@@ -21,13 +21,13 @@ use Rattle.hop.proofs.Same.{fill-same}
 use Rattle.loads.specs.Counts.{linksIn}
 
 -- a list that holds the values already
-pub fill-self : (g : ℕ → ℕ) (n : ℕ) (xs : List ℕ) → ((i : ℕ) → i < n → g i ≡ getD xs i 0) → fill g n xs ≡ xs
+fill-self : (g : ℕ → ℕ) (n : ℕ) (xs : List ℕ) → ((i : ℕ) → i < n → g i ≡ getD xs i 0) → fill g n xs ≡ xs
 unfolding fill
 fill-self g zero xs h = refl
 fill-self g (suc k) xs h = (λ t. set (fill-self g k xs (λ i l. h i (omega arith)) t) k (h k (omega arith) t)) ∙ set-getD xs k 0
 
 -- one place of those filled is changed
-pub fill-set : (g h : ℕ → ℕ) (at : ℕ) → ((i : ℕ) → (i ≡ at → ⊥) → g i ≡ h i) → (n : ℕ) (xs : List ℕ) → at < n → set (fill g n xs) at (h at) ≡ fill h n xs
+fill-set : (g h : ℕ → ℕ) (at : ℕ) → ((i : ℕ) → (i ≡ at → ⊥) → g i ≡ h i) → (n : ℕ) (xs : List ℕ) → at < n → set (fill g n xs) at (h at) ≡ fill h n xs
 unfolding fill
 fill-set g h at e zero xs l = absurd (omega arith)
 fill-set g h at e (suc k) xs l = by (λ q. fill-set g h at e k xs q) (eqb at k) refl
@@ -59,24 +59,27 @@ module _ {A : Type 0} where
     unfolding total
     one-more σ s i = omega (arith, total-append (λ s. one-if (both (eqb (who s) i) (q s))) σ (s ∷ []))
 
-    -- the counts of the first k of a list that is given one by one, and element k, which is board `to`'s
-    module _ (s : ℕ → A) (k n : ℕ) (xs : List ℕ) {now : List ℕ} {to : ℕ} (is : now ≡ fill (ofBoard (upTo s k)) n xs) (at : to ≡ who (s k)) (h : to < n) (l : n ≤ length xs) where
-      here : getD now to 0 ≡ ofBoard (upTo s k) to
-      here = rw is (fill-at (ofBoard (upTo s k)) xs 0 n to h l)
-
+    -- where a list holds the counts of the first k of elements that are given one by one, and element k is board `to`'s: the count
+    -- there is small, and with one more where the element passes it is that of the first k + 1
+    pub record Step (s : ℕ → A) (k n : ℕ) (xs now : List ℕ) (to : ℕ) : Type 0 where
       pub room : getD now to 0 ≤ k
-      room = omega (arith, here, count-most (λ s. both (eqb (who s) to) (q s)) (upTo s k), upTo-long s k)
+      pub next : (one : ℕ) → one ≡ one-if (q (s k)) → set now to (getD now to 0 + one) ≡ fill (ofBoard (upTo s (k + 1))) n xs
 
-      pub counted : (one : ℕ) → one ≡ one-if (q (s k)) → set now to (getD now to 0 + one) ≡ fill (ofBoard (upTo s (k + 1))) n xs
-      unfolding joined
-      counted one e =
-          let σ = upTo s k in
-          let own : getD now to 0 + one ≡ ofBoard (σ ++ s k ∷ []) to =
-          omega (arith, here, one-more σ (s k) to, ap (λ (b : Bool). one-if (both b (q (s k)))) (eq-eqb (who (s k)) to (sym at))) in
-          (λ t. set (is t) to (own t))
-          ∙ fill-set (ofBoard σ) (ofBoard (σ ++ s k ∷ [])) to
-          (λ i ne. omega (arith, one-more σ (s k) i, ap (λ (b : Bool). one-if (both b (q (s k)))) (ne-eqb (who (s k)) i (λ z. ne (sym z ∙ sym at))))) n xs h
-          ∙ ap (λ (τ : List A). fill (ofBoard τ) n xs) (sym (rw (add-one k)))
+    pub step : (s : ℕ → A) (k n : ℕ) (xs : List ℕ) {now : List ℕ} {to : ℕ} → now ≡ fill (ofBoard (upTo s k)) n xs → to ≡ who (s k) → to < n → n ≤ length xs → Step s k n xs now to
+    unfolding joined
+    step s k n xs {now} {to} is at h l =
+        let σ = upTo s k in
+        let here : getD now to 0 ≡ ofBoard σ to = rw is (fill-at (ofBoard σ) xs 0 n to h l) in
+        record {
+          room = omega (arith, count-most (λ s. both (eqb (who s) to) (q s)) σ, upTo-long s k);
+          next = λ one e.
+              let own : getD now to 0 + one ≡ ofBoard (σ ++ s k ∷ []) to =
+              omega (arith, one-more σ (s k) to, ap (λ (b : Bool). one-if (both b (q (s k)))) (eq-eqb (who (s k)) to (sym at))) in
+              (λ t. set (is t) to (own t))
+              ∙ fill-set (ofBoard σ) (ofBoard (σ ++ s k ∷ [])) to
+              (λ i ne. omega (arith, one-more σ (s k) i, ap (λ (b : Bool). one-if (both b (q (s k)))) (ne-eqb (who (s k)) i (λ z. ne (sym z ∙ sym at))))) n xs h
+              ∙ ap (λ (τ : List A). fill (ofBoard τ) n xs) (sym (rw (add-one k)));
+        }
 
 -- no board has a count of no sends
 pub none-counted : {A : Type 0} (who : A → ℕ) (q : A → Bool) (n m : ℕ) → n ≤ m → replicate m 0 ≡ fill (ofBoard who q []) n (replicate m 0)

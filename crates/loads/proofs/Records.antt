@@ -9,7 +9,7 @@ use Rattle.ring.specs.Lists.{joined}
 use Rattle.ring.specs.Schedule.{sender, receiver, ends}
 use Rattle.ring.specs.Bytes.{wordAt}
 use Rattle.loads.specs.Counts.{recordPlace, recordAt, recordsIn, linksIn, countsOf}
-use Rattle.loads.proofs.Counted.{Between, none-counted, room, counted}
+use Rattle.loads.proofs.Counted.{Between, none-counted, Step, step}
 
 -- the two lists hold the counts of the first k records
 pub record Held (s : List ℕ) (n : ℕ) (costs : List ℕ) (tick k : ℕ) (received sent : List ℕ) : Type 0 where
@@ -24,21 +24,20 @@ module _ {s : List ℕ} {n : ℕ} {costs : List ℕ} {tick : ℕ} (few : n ≤ 1
       record { got = none-counted (receiver r) (λ x. leb (ends r x) tick) n 128 few; gave = none-counted (sender r) (λ x. ltb (x .start) tick) n 128 few }
 
   module _ {k : ℕ} {received sent : List ℕ} (held : Held s n costs tick k received sent) {to from : ℕ} (b : Between n (getD s (recordPlace k) 0) (getD s (recordPlace k + 1) 0) to from) where
+    got-step : Step (receiver (linksIn n costs)) (λ x. leb (ends (linksIn n costs) x) tick) (λ j. recordAt s (recordPlace j)) k n (replicate 128 0) received to
+    got-step = step _ _ _ k n (replicate 128 0) (held .got) (b .to-is) (b .to-in) few
+
+    gave-step : Step (sender (linksIn n costs)) (λ x. ltb (x .start) tick) (λ j. recordAt s (recordPlace j)) k n (replicate 128 0) sent from
+    gave-step = step _ _ _ k n (replicate 128 0) (held .gave) (b .from-is) (b .from-in) few
+
     pub rooms : (getD received to 0 ≤ k) × (getD sent from 0 ≤ k)
-    rooms =
-        let r = linksIn n costs in (
-          room (receiver r) (λ x. leb (ends r x) tick) (λ j. recordAt s (recordPlace j)) k n (replicate 128 0) (held .got) (b .to-is) (b .to-in) few,
-          room (sender r) (λ x. ltb (x .start) tick) (λ j. recordAt s (recordPlace j)) k n (replicate 128 0) (held .gave) (b .from-is) (b .from-in) few,
-        )
+    rooms = (got-step .room, gave-step .room)
 
     -- record k starts at `start` and ends at `end`: its receiver has one more where it has ended, its sender where it has started
     pub one-held : {start end one two : ℕ} → start ≡ wordAt s (recordPlace k + 2) → end ≡ start + getD costs (getD s (recordPlace k) 0) 0 → one ≡ one-if (leb end tick) → two ≡ one-if (ltb start tick)
         → Held s n costs tick (k + 1) (set received to (getD received to 0 + one)) (set sent from (getD sent from 0 + two))
     one-held is to e f =
-        let r = linksIn n costs in
         record {
-          got = counted (receiver r) (λ x. leb (ends r x) tick) (λ j. recordAt s (recordPlace j)) k n (replicate 128 0) (held .got) (b .to-is) (b .to-in) few _
-              (e ∙ ap (λ (t : ℕ). one-if (leb t tick)) (to ∙ ap (λ (t : ℕ). t + getD costs (getD s (recordPlace k) 0) 0) is));
-          gave = counted (sender r) (λ x. ltb (x .start) tick) (λ j. recordAt s (recordPlace j)) k n (replicate 128 0) (held .gave) (b .from-is) (b .from-in) few _
-              (f ∙ ap (λ (t : ℕ). one-if (ltb t tick)) is);
+          got = got-step .next _ (e ∙ ap (λ (t : ℕ). one-if (leb t tick)) (to ∙ ap (λ (t : ℕ). t + getD costs (getD s (recordPlace k) 0) 0) is));
+          gave = gave-step .next _ (f ∙ ap (λ (t : ℕ). one-if (ltb t tick)) is);
         }

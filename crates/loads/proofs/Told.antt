@@ -34,6 +34,7 @@ use Rattle.loads.proofs.Counted.{count-most}
 use Rattle.loads.proofs.PlanRecords.{plan-read, link-read}
 use Rattle.loads.proofs.Asked.{written}
 
+-- m records in a buffer, for n boards of these loads and costs: with what was counted of them, `whole` holds the loads
 pub record Told (n : ℕ) (loads costs buf : List ℕ) (m : ℕ) (whole : List ℕ → List ℕ) (c : Counts) : Type 0 where
   pub few : n ≤ 128
   pub loads-long : n ≤ length loads

@@ -1,28 +1,30 @@
 -- What the planner answers and leaves, from the numbers of the plan that it worked out. Assumes nothing.
-use mathlib.Core.Path.{_≡_, refl, sym, ap, subst, _∙_}
+use mathlib.Core.Path.{_≡_, refl, sym, subst, _∙_}
 use mathlib.Core.Bool.{Bool, true, false}
 use mathlib.Core.List.{List, _++_}
 use Prim.Native.Nat.{ℕ, _+_, _*_, _≤_, _<_}
 use native.Mathlib.Omega.{arith}
 use lib.Dec.{ltb}
 use lib.IntN.{ℤ}
-use lib.ListN.{length, getD, take, drop, replicate, length-replicate}
+use lib.ListN.{getD, take, drop, replicate}
 use borrow.Author.Tests.{ltb-false}
 use Rattle.ring.specs.Numbers.{pick, sum}
-use Rattle.ring.specs.Lists.{joined, fill}
-use Rattle.ring.specs.Boards.{Ring, ringIn, Accepted}
+use Rattle.ring.specs.Lists.{joined}
+use Rattle.ring.specs.Boards.{Ring, ringIn}
 use Rattle.ring.specs.Plan.{level, offset, rounds, finishOf, moves, tight, plan}
-use Rattle.ring.proofs.Fill.{fill-at, fill-length}
+use Rattle.ring.proofs.Fill.{fill-length}
 use Rattle.planner.specs.declared.Planned.{Planned}
 use Rattle.planner.specs.declared.Planned.the-variants.{Plan, Refused}
 use Rattle.planner.specs.declared.sums.Outline.{Outline}
 use Rattle.planner.specs.PlanBytes.{headBytes, recordsOf, planBytes, planLength}
 use Rattle.planner.specs.Answer.{answerFor}
-use Rattle.planner.specs.Outline.{outlineOf, Lent}
-use Rattle.planner.specs.Links.{between, pieceBy, Linked}
+use Rattle.planner.specs.Outline.{carriesIn, outlineOf, Lent}
+use Rattle.planner.specs.Links.{pieceBy, Linked}
 use Rattle.planner.proofs.Bytes.{head-long}
 use Rattle.planner.proofs.Grow.{past-head}
-use Rattle.planner.proofs.Whole.{links-are, pieces-are, items-are}
+use Rattle.planner.proofs.SumSame.{items-are}
+use Rattle.planner.proofs.SumOutline.{level-at}
+use Rattle.planner.proofs.Whole.{links-are, pieces-are}
 
 -- an answer that is no refusal passed both tests
 passed : (t u : Bool) (p q : Planned) (f m k : ℕ) → p ≡ pick t (Refused 12 0) (pick u (Refused 13 0) q) → p ≡ Plan f m k → (t ≡ false) × (u ≡ false) × (q ≡ Plan f m k)
@@ -50,10 +52,8 @@ module _ (kind n : ℕ) (loads : List ℕ) (surpluses : List ℤ) (costs : List 
   answer-is room t =
       pick (ltb 4294967295 (is t .finish .0)) (Refused 12 0) (pick (ltb room (15 + 6 * is t .moves)) (Refused 13 0) (Plan (is t .finish .0) (is t .moves) (is t .tight)))
 
-  level-is : (i : ℕ) → i < n → getD (fill (level (ringIn kind n loads surpluses costs)) n (replicate 128 0)) i 0 ≡ level (ringIn kind n loads surpluses costs) i
-  level-is i h =
-      let b = lent .accepted .boards in
-      fill-at (level (ringIn kind n loads surpluses costs)) (replicate 128 0) 0 n i h (omega arith)
+  level-is : (i : ℕ) → i < n → getD (outlineOf (ringIn kind n loads surpluses costs) .levels) i 0 ≡ level (ringIn kind n loads surpluses costs) i
+  level-is = level-at (ringIn kind n loads surpluses costs) (lent .accepted) _ refl
 
   -- the numbers are those that the links are written from
   pub linked : finishOf (ringIn kind n loads surpluses costs) < 4294967296 → Linked kind n loads costs (o .levels) (o .offset) (o .rounds)
@@ -63,17 +63,17 @@ module _ (kind n : ℕ) (loads : List ℕ) (surpluses : List ℤ) (costs : List 
       subst (λ (p : Outline). Linked kind n loads costs (p .levels) (p .offset) (p .rounds)) (sym is)
       (links-are kind n loads surpluses costs (outlineOf r .levels) level-is (lent .accepted) soon (lent .loads-long) (lent .costs-long) (omega (arith, lent .accepted .boards)))
 
-  items : sum (λ i. between (getD (o .levels) i 0) (o .offset)) n ≡ moves (ringIn kind n loads surpluses costs)
+  items : sum (carriesIn (o .levels) (o .offset)) n ≡ moves (ringIn kind n loads surpluses costs)
   items =
       let r = ringIn kind n loads surpluses costs in
-      (λ t. sum (λ i. between (getD (is t .levels) i 0) (is t .offset)) n) ∙ items-are kind n loads surpluses costs (outlineOf r .levels) level-is
+      (λ t. sum (carriesIn (is t .levels) (is t .offset)) n) ∙ items-are r (omega (arith, lent .accepted .boards)) (outlineOf r .levels) level-is
 
-  pub room-for : (room : ℕ) → planLength (ringIn kind n loads surpluses costs) ≤ room → 15 + 6 * sum (λ i. between (getD (o .levels) i 0) (o .offset)) n ≤ room
+  pub room-for : (room : ℕ) → planLength (ringIn kind n loads surpluses costs) ≤ room → 15 + 6 * sum (carriesIn (o .levels) (o .offset)) n ≤ room
   room-for room h = omega (arith, items)
 
   -- the head and the links together are the plan
   pub laid-out : (f m : ℕ) (xs ys zs : List ℕ) → f ≡ finishOf (ringIn kind n loads surpluses costs) → m ≡ moves (ringIn kind n loads surpluses costs) → ys ≡ headBytes kind n f m ++ drop 15 xs
-      → zs ≡ (take 15 ys ++ joined (λ i. pieceBy kind n loads costs (getD (o .levels) i 0) (o .offset) (o .rounds) i) n) ++ drop (15 + 6 * sum (λ i. between (getD (o .levels) i 0) (o .offset)) n) ys
+      → zs ≡ (take 15 ys ++ joined (λ i. pieceBy kind n loads costs (getD (o .levels) i 0) (o .offset) (o .rounds) i) n) ++ drop (15 + 6 * sum (carriesIn (o .levels) (o .offset)) n) ys
       → zs ≡ planBytes (ringIn kind n loads surpluses costs) ++ drop (planLength (ringIn kind n loads surpluses costs)) xs
   laid-out f m xs ys zs ef em head wrote =
       let r = ringIn kind n loads surpluses costs in

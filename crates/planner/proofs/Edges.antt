@@ -12,7 +12,8 @@ use borrow.Rule.Slice.PartMut.{putMid, midOf}
 use borrow.Author.Tests.{ltb-true, ltb-false, lt-ltb, le-ltb}
 use Rattle.ring.specs.Lists.{joined}
 use Rattle.planner.specs.PlanBytes.{sendBytes, linkBytes}
-use Rattle.planner.specs.EvenRuns.{edgeOf, Owns, Even, runsBytes}
+use Rattle.planner.specs.Runs.{at, In}
+use Rattle.planner.specs.EvenRuns.{edgeOf, Even, runsBytes}
 use Rattle.planner.proofs.Joined.{joined-add, joined-same}
 use Rattle.planner.proofs.Bytes.{link-long}
 use Rattle.planner.proofs.Grow.{Begins, more}
@@ -35,7 +36,7 @@ module _ {from first step : List ℕ} {m count : ℕ} (even : Even from first st
   edge-last = rw (le-ltb m m (omega arith))
 
   pub edge-first : edgeOf from m count 0 ≡ 0
-  edge-first = edge-from 0 (even .some) ∙ even .begins
+  edge-first = edge-from 0 (even .cover .some .0) ∙ even .cover .origin
 
   -- run e begins at its first send, ends no sooner, and within the link's sends; it owns those between,
   -- and begins soon where there is one
@@ -43,7 +44,7 @@ module _ {from first step : List ℕ} {m count : ℕ} (even : Even from first st
     pub begins : edgeOf from m count e ≡ getD from e 0
     pub rises : getD from e 0 ≤ edgeOf from m count (e + 1)
     pub within : edgeOf from m count (e + 1) ≤ count
-    pub owns : (x : ℕ) → getD from e 0 ≤ x → x < edgeOf from m count (e + 1) → Owns from m count e x
+    pub owns : (x : ℕ) → getD from e 0 ≤ x → x < edgeOf from m count (e + 1) → In (at from) count m e x
     pub soon : getD from e 0 < edgeOf from m count (e + 1) → getD first e 0 < 4294967296
 
   pub run-at : (e : ℕ) → e < m → Run e
@@ -52,19 +53,19 @@ module _ {from first step : List ℕ} {m count : ℕ} (even : Even from first st
       next : getD from (suc e) 0 ≡ getD from (e + 1) 0
       next = rw (add-one e)
 
-      made : getD from e 0 ≤ edgeOf from m count (e + 1) → edgeOf from m count (e + 1) ≤ count → ((x : ℕ) → getD from e 0 ≤ x → x < edgeOf from m count (e + 1) → Owns from m count e x) → Run e
+      made : getD from e 0 ≤ edgeOf from m count (e + 1) → edgeOf from m count (e + 1) ≤ count → ((x : ℕ) → getD from e 0 ≤ x → x < edgeOf from m count (e + 1) → In (at from) count m e x) → Run e
       made p q own = record { begins = edge-from e h; rises = p; within = q; owns = own; soon = λ l. even .soon e (getD from e 0) (own (getD from e 0) (omega arith) l) }
 
       by : (t : Bool) → ltb (e + 1) m ≡ t → Run e
       by true p =
           let l = ltb-true (e + 1) m p in
           let is = edge-from (e + 1) l in
-          let top = even .within (e + 1) l in
-          made (omega (arith, next, even .rises e (omega arith))) (omega arith) (λ x a b. (h, a, omega arith, λ q. omega (arith, next)))
+          let top = even .cover .within (e + 1) l in
+          made (omega (arith, next, even .cover .up e (omega arith))) (omega arith) (λ x a b. (h, a, omega arith, λ q. omega (arith, next)))
       by false p =
           let l = ltb-false (e + 1) m p in
           let is : edgeOf from m count (e + 1) ≡ count = rw p in
-          made (omega (arith, even .within e h)) (omega arith) (λ x a b. (h, a, omega arith, λ q. omega arith))
+          made (omega (arith, even .cover .within e h)) (omega arith) (λ x a b. (h, a, omega arith, λ q. omega arith))
 
   module _ (link way : ℕ) (part : List ℕ) where
     pub none-ran : Ran from first step m count link way part 0 0 part
@@ -91,7 +92,7 @@ module _ {from first step : List ℕ} {m count : ℕ} (even : Even from first st
     all-ran t = t .front .is ∙ ap (λ (k : ℕ). runsBytes from first step m count link way m ++ drop (6 * k) part) (t .edge ∙ edge-last)
 
   -- the starts are those that the runs say: then the runs' records are the link's
-  module _ (start : ℕ → ℕ) (says : (e x : ℕ) → Owns from m count e x → getD first e 0 + getD step e 0 * (x - getD from e 0) ≡ start x) (link way : ℕ) where
+  module _ (start : ℕ → ℕ) (says : (e x : ℕ) → In (at from) count m e x → getD first e 0 + getD step e 0 * (x - getD from e 0) ≡ start x) (link way : ℕ) where
     runs-below : (k : ℕ) → k ≤ m → runsBytes from first step m count link way k ≡ linkBytes link way start (edgeOf from m count k)
     unfolding joined
     runs-below zero h = rw edge-first

@@ -1,6 +1,6 @@
 -- A buffer that is written piece by piece from its front: what a callee that was lent the part from `at` on says of the part, said
 -- of the whole. Assumes nothing.
-use mathlib.Core.Path.{_≡_, refl, sym, ap, _∙_}
+use mathlib.Core.Path.{_≡_, refl, ap, _∙_}
 use mathlib.Core.List.{List, [], _++_, append-assoc, append-nil}
 use Prim.Native.Nat.{ℕ, suc, _+_, _*_, _-_, _≤_, _<_}
 use native.Mathlib.Omega.{arith}
@@ -58,8 +58,6 @@ module _ {from : ℕ} (g : ℕ → List ℕ) (w : ℕ → ℕ) (xs : List ℕ) w
   unfolding sum
   one-more {i} ys t long fits wrote =
       record { up-to = rw (add-one, sum) (omega arith); front = more (take from xs) g i (6 * w i) ys (t .front) long fits wrote }
-
-  -- after the head, and with the last piece
 
   -- the whole, once all are written
   pub all-written : {i at : ℕ} {now : List ℕ} (n : ℕ) → i ≡ n → Written from g w xs i at now → now ≡ (take from xs ++ joined g n) ++ drop (from + 6 * sum w n) xs

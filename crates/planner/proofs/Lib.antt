@@ -16,3 +16,6 @@ pub mod Linking
 pub mod Whole
 pub mod Answers
 pub mod Reading
+pub mod Crossing
+pub mod Closing
+pub mod OneAnswer

@@ -1,5 +1,5 @@
 -- The records of one link, from the plan's numbers: what a writer of even runs leaves is what the numbers say. Assumes nothing.
-use mathlib.Core.Path.{_≡_, refl, sym, ap, _∙_}
+use mathlib.Core.Path.{_≡_, refl, ap, _∙_}
 use mathlib.Core.List.{List, _++_}
 use Prim.Native.Nat.{ℕ, _+_, _*_, _-_, _≤_, _<_}
 use native.Mathlib.Omega.{arith}
@@ -8,7 +8,8 @@ use borrow.Author.Tests.{lt-ltb, le-ltb, eq-eqb, ne-eqb}
 use Rattle.planner.specs.PlanBytes.{sendBytes, linkBytes}
 use Rattle.planner.specs.Runs.{at, oneWay, startBack, Runs}
 use Rattle.planner.specs.EvenRuns.{Even, runsBytes}
-use Rattle.planner.specs.Links.{between, wayBy, startTwo, pieceBy}
+use Rattle.planner.specs.Outline.{between}
+use Rattle.planner.specs.Links.{wayBy, startTwo, pieceBy}
 use Rattle.planner.proofs.Joined.{joined-same}
 use Rattle.planner.proofs.Edges.{runs-are}
 
@@ -38,13 +39,10 @@ module _ (from first step : List ℕ) (count m : ℕ) (start : ℕ → ℕ) (t :
   pub runs-even : 128 ≤ length from → 128 ≤ length first → 128 ≤ length step → ((x : ℕ) → x < count → start x < 4294967296) → Even from first step m count
   runs-even a b c soon =
       record {
-        some = t .some .0;
-        froms = omega (arith, t .some);
-        firsts = omega (arith, t .some);
-        steps = omega (arith, t .some);
-        begins = t .origin;
-        rises = λ e h. omega (arith, t .up e h);
-        within = t .within;
+        cover = t .cover;
+        froms = omega (arith, t .cover .some);
+        firsts = omega (arith, t .cover .some);
+        steps = omega (arith, t .cover .some);
         soon = λ e x o. omega (arith, t .is e x o, soon x (o .2));
       }
 

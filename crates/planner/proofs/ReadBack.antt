@@ -4,24 +4,19 @@ use mathlib.Core.List.{List, [], _∷_, _++_}
 use mathlib.Core.Logic.{⊎-elim}
 use Prim.Native.Nat.{ℕ, _*_, _≤_, _<_}
 use native.Mathlib.Omega.{arith}
-use lib.ListN.{length, take, drop}
+use lib.ListN.{length, take}
 use lib.Seq.{take-at}
 use Rattle.ring.specs.Lists.{Each}
 use Rattle.ring.specs.Boards.{Ring}
 use Rattle.ring.specs.Schedule.{Send, Allowed, finish}
 use Rattle.ring.specs.Plan.{plan, finishOf, moves}
 use Rattle.ring.specs.Bytes.{wordAt, wordBytes}
-use Rattle.planner.specs.PlanBytes.{sendBytes, recordsOf, headBytes, planBytes, finishIn, movesIn, sendsIn}
+use Rattle.planner.specs.PlanBytes.{sendBytes, recordsOf, headBytes, planBytes, finishIn, movesIn, sendsIn, planIn}
 use Rattle.planner.proofs.Bytes.{records-long}
 
 -- a number of 32 bits
 pub word-back : (x : ℕ) → x < 4294967296 → wordAt (wordBytes x) 0 ≡ x
 word-back x h = omega arith
-
--- each byte is one, where link and direction are
-pub send-bytes : (s : Send) → s .link < 256 → s .way < 256 → Each (λ b. b < 256) (sendBytes s)
-unfolding sendBytes
-send-bytes s l w = omega arith
 
 -- a send that a record has room for
 pub record Fitting (s : Send) : Type 0 where
@@ -51,6 +46,9 @@ module _ (r : Ring) (rest : List ℕ) where
   unfolding headBytes
   moves-back h = word-back (moves r) h
 
-  pub plan-back : length (plan r) ≡ moves r → Each Fitting (plan r) → sendsIn (take (6 * moves r) (drop 15 (planBytes r ++ rest))) ≡ plan r
+  pub plan-back : length (plan r) ≡ moves r → moves r < 4294967296 → Each Fitting (plan r) → planIn (planBytes r ++ rest) ≡ plan r
   unfolding headBytes
-  plan-back e h = ap sendsIn (take-at (recordsOf (plan r)) rest (6 * moves r) (records-long (plan r) ∙ ap (λ (k : ℕ). 6 * k) e)) ∙ sends-back (plan r) h
+  plan-back e few h =
+      ap (λ (k : ℕ). sendsIn (take (6 * k) (recordsOf (plan r) ++ rest))) (moves-back few)
+      ∙ ap sendsIn (take-at (recordsOf (plan r)) rest (6 * moves r) (records-long (plan r) ∙ ap (λ (k : ℕ). 6 * k) e))
+      ∙ sends-back (plan r) h

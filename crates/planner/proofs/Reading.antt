@@ -1,18 +1,18 @@
 -- From the job that was read to the planner's promise about its bytes. Assumes nothing.
-use mathlib.Core.Path.{_≡_, refl, sym, ap, subst, _∙_}
+use mathlib.Core.Path.{_≡_, sym, ap, subst, _∙_}
 use mathlib.Core.List.{List}
 use Prim.Native.Nat.{ℕ}
 use native.Mathlib.Omega.{arith}
 use lib.ListN.{length}
-use Rattle.hop.specs.declared.Check.{Check}
 use Rattle.hop.specs.declared.Check.the-variants.{Ring as Read, Refused as Unread}
 use Rattle.hop.specs.declared.Job.{Job}
 use Rattle.hop.specs.Refusals.{numberOf, placeOf}
 use Rattle.hop.specs.Read.{jobOf}
 use Rattle.hop.proofs.Accepted.{job-accepted, after-is, arrays}
 use Rattle.planner.specs.declared.Planned.{Planned}
-use Rattle.planner.specs.declared.Planned.the-variants.{Plan, Refused}
+use Rattle.planner.specs.declared.Planned.the-variants.{Refused}
 use Rattle.planner.specs.Answer.{answerFor, memoryFor, ringFor, answerBy, memoryBy, planAnswer, planMemory}
+use Rattle.planner.specs.Traffic.{trafficIn, trafficBy, trafficOf}
 use Rattle.planner.specs.Outline.{Lent}
 
 module _ (s : List ℕ) (job : Job) (is : job ≡ jobOf s) where
@@ -25,6 +25,10 @@ module _ (s : List ℕ) (job : Job) (is : job ≡ jobOf s) where
     pub unread-memory : (xs : List ℕ) → xs ≡ planMemory (jobOf s) xs
     unfolding planMemory
     unread-memory xs = sym (ap (memoryBy job xs) told) ∙ ap (λ (j : Job). planMemory j xs) is
+
+    pub unread-traffic : trafficBy job (Unread number board) ≡ trafficOf (jobOf s)
+    unfolding trafficOf
+    unread-traffic = sym (ap (trafficBy job) told) ∙ ap trafficOf is
 
   module _ (kind n : ℕ) (told : job .answer ≡ Read kind n) where
     pub lent : Lent kind n (job .loads) (job .surpluses) (job .costs)
@@ -43,3 +47,7 @@ module _ (s : List ℕ) (job : Job) (is : job ≡ jobOf s) where
     unfolding planMemory
     read-memory xs p e =
         ap (λ (q : Planned). memoryFor (ringFor job kind n) q xs) e ∙ sym (ap (memoryBy job xs) told) ∙ ap (λ (j : Job). planMemory j xs) is
+
+    pub read-traffic : trafficIn (ringFor job kind n) ≡ trafficOf (jobOf s)
+    unfolding trafficOf
+    read-traffic = sym (ap (trafficBy job) told) ∙ ap trafficOf is

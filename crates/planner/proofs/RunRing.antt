@@ -21,10 +21,6 @@ pub prev-more : (r : Ring) (l : ℕ) → (l ≡ 0 → ⊥) → l - 1 ≡ prev r 
 prev-more r zero e = absurd (e refl)
 prev-more r (suc l) e = omega arith
 
-pub prev-same : (r s : Ring) (l : ℕ) → r .n ≡ s .n → prev r l ≡ prev s l
-prev-same r s zero e = omega arith
-prev-same r s (suc l) e = refl
-
 module _ (kind n : ℕ) (loads : List ℕ) (surpluses : List ℤ) (costs : List ℕ) where
   pub back-same : (d i : ℕ) → endBack (oneWay n loads costs) d i ≡ endBack (ringIn kind n loads surpluses costs) d i
   unfolding endBack

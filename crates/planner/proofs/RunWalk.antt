@@ -34,10 +34,7 @@ module _ (r : Ring) (ok : Accepted r) (i count : ℕ) (from first step : ℕ →
   unfolding endBack
   settled d l past spent w end few =
       record {
-        some = (s .some, few);
-        origin = s .base .0;
-        up = λ e h. s .up (suc e) h e (le-refl (suc e));
-        within = λ e h. omega (arith, s .within e h);
+        cover = record { some = (s .some, few); origin = s .base .0; up = λ e h. s .up (suc e) h e (le-refl (suc e)); within = λ e h. omega (arith, s .within e h) };
         is =
             λ e x h.
             omega (arith, w .shows .is e x h, starts end x (h .2), apart (step e) (from e) x (h .1));

@@ -32,12 +32,15 @@ board-held l i h =
 
 -- a list of a ring's levels, and what the steps make of it
 module _ (r : Ring) (ok : Accepted r) (xs : List ℕ) (levels : xs ≡ fill (level r) (r .n) (replicate 128 0)) where
-  at : (i : ℕ) → i < r .n → getD xs i 0 ≡ level r i
-  at i h = rw levels (fill-at (level r) (replicate 128 0) 0 (r .n) i h (omega arith))
+  pub level-at : (i : ℕ) → i < r .n → getD xs i 0 ≡ level r i
+  level-at i h = rw levels (fill-at (level r) (replicate 128 0) 0 (r .n) i h (omega arith))
+
+  pub carries-few : (i : ℕ) → i < r .n → carriesIn xs (offset r) i ≤ 128 * mostLoad
+  carries-few i h = omega (arith, carries-is r (omega arith) xs level-at i h, carries-most r ok i h, items-most r ok)
 
   module _ (s : Span) (span : s ≡ spanOf (r .n) xs) where
     ends : _≡_ {A = Span} s (record { low = low r; high = high r })
-    ends = span ∙ span-is r (omega arith) xs at
+    ends = span ∙ span-is r (omega arith) xs level-at
 
     pub spread-most : (s .low ≤ s .high) × (s .high - s .low ≤ 128 * mostLoad)
     spread-most = rw ends (omega (arith, low-le r ok 0 (omega arith), le-high r ok 0 (omega arith), spread r ok, items-most r ok))
@@ -48,7 +51,7 @@ module _ (r : Ring) (ok : Accepted r) (xs : List ℕ) (levels : xs ≡ fill (lev
       offset-is = taken ∙ (λ t. pick (eqb (r .kind) 3) (ends t .low + (ends t .high - ends t .low) / 2) (ends t .low))
 
       pub carried-most : (i : ℕ) → i < r .n → carriesIn xs o i ≤ 128 * mostLoad
-      carried-most i h = rw offset-is (omega (arith, carries-is r (omega arith) xs at i h, carries-most r ok i h, items-most r ok))
+      carried-most i h = rw offset-is (carries-few i h)
 
       module _ (big turns : ℕ) (largest : big ≡ greatest (surplusSize r) (r .n - 1)) (greater : turns ≡ max big ((s .high - s .low + 1) / 2)) where
         rounds-is : turns ≡ rounds r
@@ -60,6 +63,6 @@ module _ (r : Ring) (ok : Accepted r) (xs : List ℕ) (levels : xs ≡ fill (lev
             → _≡_ {A = Outline} (record { levels = xs; offset = o; rounds = turns; moves = u .moves; tight = u .tight; finish = f }) (outlineOf r)
         unfolding finishOf
         whole costs cost u tally f finish =
-            let v = tally ∙ ap (λ (x : ℕ). tallyOf (r .n) xs x costs) offset-is ∙ tally-is r (omega arith) xs at costs cost in
+            let v = tally ∙ ap (λ (x : ℕ). tallyOf (r .n) xs x costs) offset-is ∙ tally-is r (omega arith) xs level-at costs cost in
             let e = finish ∙ (λ t. pick (eqb (r .kind) 3) (rounds-is t * r .cost 0) (v t .slowest .0)) in
             λ t. record { levels = levels t; offset = offset-is t; rounds = rounds-is t; moves = v t .moves; tight = v t .tight; finish = record { 0 = e t } }

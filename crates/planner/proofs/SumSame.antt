@@ -5,7 +5,7 @@ use Prim.Native.Nat.{ℕ, zero, suc, _*_, _-_, _≤_, _<_}
 use native.Mathlib.Omega.{arith}
 use lib.Dec.{ltb}
 use lib.ListN.{getD}
-use Rattle.ring.specs.Numbers.{pick, least, greatest, peak}
+use Rattle.ring.specs.Numbers.{pick, sum, least, greatest, peak}
 use Rattle.ring.specs.Boards.{Ring}
 use Rattle.ring.specs.Plan.{level, low, high, offset, ahead, behind, carries, moves, tight}
 use Rattle.planner.specs.declared.sums.Span.{Span}
@@ -44,11 +44,14 @@ module _ (r : Ring) (some : 1 ≤ r .n) (xs : List ℕ) (is : (i : ℕ) → i < 
   unfolding ahead behind
   carries-is i h = omega (arith, is i h)
 
+  pub items-are : sum (carriesIn xs (offset r)) (r .n) ≡ moves r
+  unfolding moves
+  items-are = sum-eq (carriesIn xs (offset r)) (carries r) (r .n) carries-is
+
   pub tally-is : (costs : List ℕ) → ((i : ℕ) → i < r .n → getD costs i 0 ≡ r .cost i)
       → _≡_ {A = Tally} (tallyOf (r .n) xs (offset r) costs) (record { moves = moves r; tight = tight r; slowest = record { 0 = greatest (λ i. carries r i * r .cost i) (r .n - 1) } })
-  unfolding moves tight
+  unfolding tight
   tally-is costs cost =
-      let m = sum-eq (carriesIn xs (offset r)) (carries r) (r .n) carries-is in
       let p = same (carriesIn xs (offset r)) (carries r) (r .n - 1) (λ i h. carries-is i (omega arith)) in
       let q = same (λ i. carriesIn xs (offset r) i * getD costs i 0) (λ i. carries r i * r .cost i) (r .n - 1) (λ i h t. carries-is i (omega arith) t * cost i (omega arith) t) in
-      λ t. record { moves = m t; tight = p .top t; slowest = record { 0 = q .high t } }
+      λ t. record { moves = items-are t; tight = p .top t; slowest = record { 0 = q .high t } }

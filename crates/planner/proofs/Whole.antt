@@ -1,89 +1,73 @@
 -- The records of all links are the plan's, and the numbers of an accepted ring's plan are those the links are written from. Assumes nothing.
-use mathlib.Core.Path.{_≡_, refl, sym, ap, _∙_}
+use mathlib.Core.Path.{_≡_, sym, ap, _∙_}
 use mathlib.Core.Logic.{inr}
 use mathlib.Core.List.{List}
 use Prim.Native.Nat.{ℕ, suc, _+_, _*_, _-_, _≤_, _<_}
 use native.Mathlib.Omega.{arith}
 use lib.Dec.{eqb, ltb}
 use lib.IntN.{ℤ}
-use lib.ListN.{length, getD, drop}
+use lib.ListN.{length, getD}
 use borrow.Author.Tests.{eq-eqb, ne-eqb}
-use Rattle.ring.specs.Numbers.{pick, sum}
+use Rattle.ring.specs.Numbers.{pick}
 use Rattle.ring.specs.Lists.{joined}
-use Rattle.ring.specs.Boards.{Ring, ringIn, Accepted}
-use Rattle.ring.specs.Schedule.{ends}
-use Rattle.ring.specs.Plan.{level, offset, ahead, behind, carries, rounds, endOf, startOf, wayOf, sendOf, plan, finishOf, moves}
-use Rattle.ring.proofs.Sums.{sum-eq}
+use Rattle.ring.specs.Boards.{ringIn, Accepted}
+use Rattle.ring.specs.Plan.{level, offset, ahead, behind, carries, rounds, startOf, wayOf, sendOf, plan, finishOf}
 use Rattle.ring.proofs.Level.{none-behind}
 use Rattle.ring.proofs.Bounds.{within-rounds}
 use Rattle.ring.proofs.Best.{timed}
 use Rattle.planner.specs.PlanBytes.{sendBytes, recordsOf}
 use Rattle.planner.specs.Runs.{oneWay, startBack}
-use Rattle.planner.specs.Links.{between, startBy, pieceBy, Timely, Linked}
+use Rattle.planner.specs.Links.{startBy, pieceBy, Linked}
 use Rattle.planner.proofs.Joined.{joined-same}
 use Rattle.planner.proofs.Bytes.{records-plan}
-use Rattle.planner.proofs.RunRing.{back-same, one-way}
-
--- the ring that a planner's lists say
-abbrev pub ring : ℕ → ℕ → List ℕ → List ℤ → List ℕ → Ring
-ring = ringIn
+use Rattle.planner.proofs.RunRing.{back-same, starts-same, one-way}
 
 module _ (kind n : ℕ) (loads : List ℕ) (surpluses : List ℤ) (costs : List ℕ) where
   pub start-is : (i x : ℕ)
-      → startBy kind n loads costs (level (ring kind n loads surpluses costs) i) (offset (ring kind n loads surpluses costs)) (rounds (ring kind n loads surpluses costs)) i x
-      ≡ startOf (ring kind n loads surpluses costs) i (suc x)
+      → startBy kind n loads costs (level (ringIn kind n loads surpluses costs) i) (offset (ringIn kind n loads surpluses costs)) (rounds (ringIn kind n loads surpluses costs)) i x
+      ≡ startOf (ringIn kind n loads surpluses costs) i (suc x)
   unfolding startOf behind
   start-is i x =
-      let r = ring kind n loads surpluses costs in
+      let r = ringIn kind n loads surpluses costs in
       let e : x ≡ suc x - 1 = omega arith in
       let b = back-same kind n loads surpluses costs n i in
       λ t. pick (eqb kind 3) (pick (ltb 0 (offset r - level r i)) ((rounds r - (offset r - level r i) + e t) * getD costs i 0) (e t * getD costs i 0)) (b t (suc x) - getD costs i 0)
 
-  one-by : (l o t i x : ℕ) → (kind ≡ 3 → ⊥) → startBack (oneWay n loads costs) i x ≡ startBy kind n loads costs l o t i x
-  one-by l o t i x e = rw (ne-eqb kind 3 e)
-
-  one-start : (i x : ℕ) → (kind ≡ 3 → ⊥) → startBack (oneWay n loads costs) i x ≡ startOf (ring kind n loads surpluses costs) i (suc x)
-  one-start i x e = let r = ring kind n loads surpluses costs in one-by (level r i) (offset r) (rounds r) i x e ∙ start-is i x
-
-  module _ (levels : List ℕ) (level-is : (i : ℕ) → i < n → getD levels i 0 ≡ level (ring kind n loads surpluses costs) i) where
+  module _ (levels : List ℕ) (level-is : (i : ℕ) → i < n → getD levels i 0 ≡ level (ringIn kind n loads surpluses costs) i) where
     piece-is : (i : ℕ) → i < n
-        → pieceBy kind n loads costs (getD levels i 0) (offset (ring kind n loads surpluses costs)) (rounds (ring kind n loads surpluses costs)) i
-        ≡ joined (λ j. sendBytes (sendOf (ring kind n loads surpluses costs) i (suc j))) (carries (ring kind n loads surpluses costs) i)
+        → pieceBy kind n loads costs (getD levels i 0) (offset (ringIn kind n loads surpluses costs)) (rounds (ringIn kind n loads surpluses costs)) i
+        ≡ joined (λ j. sendBytes (sendOf (ringIn kind n loads surpluses costs) i (suc j))) (carries (ringIn kind n loads surpluses costs) i)
     unfolding ahead behind
     piece-is i h =
-        let r = ring kind n loads surpluses costs in
+        let r = ringIn kind n loads surpluses costs in
         ap (λ (l : ℕ). pieceBy kind n loads costs l (offset r) (rounds r) i) (level-is i h)
         ∙ joined-same _ _ (carries r i) (λ x p. ap (λ (t : ℕ). sendBytes (record { link = i; way = wayOf r i; start = t })) (start-is i x))
 
-    pub pieces-are : joined (λ i. pieceBy kind n loads costs (getD levels i 0) (offset (ring kind n loads surpluses costs)) (rounds (ring kind n loads surpluses costs)) i) n
-        ≡ recordsOf (plan (ring kind n loads surpluses costs))
-    pieces-are = joined-same _ _ n piece-is ∙ sym (records-plan (ring kind n loads surpluses costs))
+    pub pieces-are : joined (λ i. pieceBy kind n loads costs (getD levels i 0) (offset (ringIn kind n loads surpluses costs)) (rounds (ringIn kind n loads surpluses costs)) i) n
+        ≡ recordsOf (plan (ringIn kind n loads surpluses costs))
+    pieces-are = joined-same _ _ n piece-is ∙ sym (records-plan (ringIn kind n loads surpluses costs))
 
-    pub items-are : sum (λ i. between (getD levels i 0) (offset (ring kind n loads surpluses costs))) n ≡ moves (ring kind n loads surpluses costs)
-    unfolding moves ahead behind
-    items-are = sum-eq _ _ n (λ i h. ap (λ (l : ℕ). between l (offset (ring kind n loads surpluses costs))) (level-is i h))
-
-    module _ (ok : Accepted (ring kind n loads surpluses costs)) (soon : finishOf (ring kind n loads surpluses costs) < 4294967296) where
+    module _ (ok : Accepted (ringIn kind n loads surpluses costs)) (soon : finishOf (ringIn kind n loads surpluses costs) < 4294967296) where
       two : (i : ℕ) → i < n → kind ≡ 3
-          → (offset (ring kind n loads surpluses costs) - level (ring kind n loads surpluses costs) i ≤ rounds (ring kind n loads surpluses costs))
-          × (rounds (ring kind n loads surpluses costs) * getD costs i 0 < 4294967296)
+          → (offset (ringIn kind n loads surpluses costs) - level (ringIn kind n loads surpluses costs) i ≤ rounds (ringIn kind n loads surpluses costs))
+          × (rounds (ringIn kind n loads surpluses costs) * getD costs i 0 < 4294967296)
       unfolding finishOf behind
       two i h e =
-          let r = ring kind n loads surpluses costs in
+          let r = ringIn kind n loads surpluses costs in
           let s : rounds r * getD costs 0 0 < 4294967296 = rw (eq-eqb kind 3 e) at soon in
           (omega (arith, within-rounds r ok e i h), rw (ok .alike (inr e) i h) s)
 
       one : (i : ℕ) → i < n → (kind ≡ 3 → ⊥)
-          → (offset (ring kind n loads surpluses costs) ≤ level (ring kind n loads surpluses costs) i)
-          × ((x : ℕ) → x < level (ring kind n loads surpluses costs) i - offset (ring kind n loads surpluses costs) → startBack (oneWay n loads costs) i x < 4294967296)
+          → (offset (ringIn kind n loads surpluses costs) ≤ level (ringIn kind n loads surpluses costs) i)
+          × ((x : ℕ) → x < level (ringIn kind n loads surpluses costs) i - offset (ringIn kind n loads surpluses costs) → startBack (oneWay n loads costs) i x < 4294967296)
       unfolding ahead behind
       one i h e =
-          let r = ring kind n loads surpluses costs in
-          (omega (arith, none-behind r ok e i h), λ x l. omega (arith, timed r ok .ended i x h (omega arith), one-start i x e))
+          let r = ringIn kind n loads surpluses costs in
+          (omega (arith, none-behind r ok e i h), λ x l. omega (arith, timed r ok .ended i x h (omega arith), starts-same kind n loads surpluses costs (ne-eqb kind 3 e) i x))
 
-      pub links-are : n ≤ length loads → n ≤ length costs → n ≤ length levels → Linked kind n loads costs levels (offset (ring kind n loads surpluses costs)) (rounds (ring kind n loads surpluses costs))
+      pub links-are : n ≤ length loads → n ≤ length costs → n ≤ length levels → Linked kind n loads costs levels (offset (ringIn kind n loads surpluses costs)) (rounds (ringIn kind n loads surpluses costs))
       links-are a b c =
-          let r = ring kind n loads surpluses costs in
+          let r = ringIn kind n loads surpluses costs in
           record {
             accepted = one-way kind n loads surpluses costs ok;
             loads-long = a;

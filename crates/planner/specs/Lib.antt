@@ -1,5 +1,6 @@
 pub mod PlanBytes
 pub mod Answer
+pub mod Traffic
 pub mod Outline
 pub mod Runs
 pub mod RunSteps

@@ -1,3 +1,4 @@
+-- Inner: cited by the contracts of the planner's inner functions only. What the planner promises is in Answer, Traffic and PlanBytes.
 -- The records of one link, and of all links, from the numbers of a plan: its levels, offset and rounds.
 use mathlib.Core.Path.{_≡_}
 use mathlib.Core.List.{List}
@@ -7,11 +8,8 @@ use lib.ListN.{length, getD}
 use Rattle.ring.specs.Numbers.{pick}
 use Rattle.ring.specs.Boards.{Accepted}
 use Rattle.planner.specs.PlanBytes.{linkBytes}
+use Rattle.planner.specs.Outline.{between}
 use Rattle.planner.specs.Runs.{oneWay, startBack}
-
--- the items between a link's level and the offset
-abbrev pub between : ℕ → ℕ → ℕ
-between level offset = (level - offset) + (offset - level)
 
 -- back where the level is below the offset
 abbrev pub wayBy : ℕ → ℕ → ℕ

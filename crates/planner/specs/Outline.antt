@@ -1,3 +1,4 @@
+-- Inner: cited by the contracts of the planner's inner functions only. What the planner promises is in Answer, Traffic and PlanBytes.
 -- The numbers of a plan, and what is known of the lists that they are worked out from.
 use mathlib.Core.Path.{_≡_}
 use mathlib.Core.List.{List, []}
@@ -6,11 +7,13 @@ use lib.IntN.{ℤ, pos, _-ℤ_}
 use lib.ListN.{length, getD, replicate}
 use Rattle.ring.specs.Numbers.{sum, least, greatest, peak}
 use Rattle.ring.specs.Lists.{fill}
-use Rattle.ring.specs.Boards.{Ring, Accepted, ringIn, mostLoad}
+use Rattle.ring.specs.Boards.{Ring, Accepted, ringIn, prev, mostLoad}
 use Rattle.ring.specs.Plan.{level, offset, rounds, moves, tight, finishOf}
+use Rattle.planner.specs.declared.Traffic.{Traffic}
 use Rattle.planner.specs.declared.sums.Span.{Span}
 use Rattle.planner.specs.declared.sums.Tally.{Tally}
 use Rattle.planner.specs.declared.sums.Outline.{Outline}
+use Rattle.planner.specs.Traffic.{forBoards}
 
 -- the ring of a job's boards alone: no level depends on the kind or the costs
 abbrev pub boardsIn : ℕ → List ℕ → List ℤ → Ring
@@ -36,9 +39,13 @@ pub record Lent (kind n : ℕ) (loads : List ℕ) (surpluses : List ℤ) (costs 
 abbrev pub spanOf : ℕ → List ℕ → Span
 spanOf n levels = record { low = least (λ i. getD levels i 0) (n - 1); high = greatest (λ i. getD levels i 0) (n - 1) }
 
--- |level − offset|: the items that link i carries
+-- |a − b|; of a link's level and the offset, the items that the link carries
+abbrev pub between : ℕ → ℕ → ℕ
+between a b = (a - b) + (b - a)
+
+-- the items that link i carries, by a list of levels
 abbrev pub carriesIn : List ℕ → ℕ → ℕ → ℕ
-carriesIn levels offset i = (getD levels i 0 - offset) + (offset - getD levels i 0)
+carriesIn levels offset i = between (getD levels i 0) offset
 
 -- all items carried, the lowest link that carries the most, and the longest time that a link takes for its items
 abbrev pub tallyOf : ℕ → List ℕ → ℕ → List ℕ → Tally
@@ -47,6 +54,17 @@ tallyOf n levels offset costs =
       moves = sum (carriesIn levels offset) n;
       tight = peak (carriesIn levels offset) (n - 1);
       slowest = record { 0 = greatest (λ i. carriesIn levels offset i * getD costs i 0) (n - 1) };
+    }
+
+-- what each of the first k boards sends and receives: on its link, and on the link before it
+abbrev pub crossings : ℕ → List ℕ → ℕ → ℕ → Traffic
+crossings n levels offset k =
+    let ahead : ℕ → ℕ = λ i. getD levels i 0 - offset in
+    let behind : ℕ → ℕ = λ i. offset - getD levels i 0 in
+    let before : ℕ → ℕ = prev (boardsIn n [] []) in
+    record {
+      sends = forBoards (λ i. ahead i + behind (before i)) k;
+      receives = forBoards (λ i. ahead (before i) + behind i) k;
     }
 
 -- the numbers of a ring's plan

@@ -1,6 +1,7 @@
 -- Document 01, "Bytes": the bytes of a plan, and what is read from them.
 use mathlib.Core.List.{List, [], _∷_, _++_}
 use Prim.Native.Nat.{ℕ, _+_, _*_}
+use lib.ListN.{take, drop}
 use Rattle.ring.specs.Lists.{joined}
 use Rattle.ring.specs.Boards.{Ring}
 use Rattle.ring.specs.Schedule.{Send}
@@ -50,3 +51,7 @@ sendsIn (a ∷ b ∷ c ∷ d ∷ []) = []
 sendsIn (a ∷ b ∷ c ∷ d ∷ e ∷ []) = []
 sendsIn (a ∷ b ∷ c ∷ d ∷ e ∷ f ∷ rest) =
     record { link = a; way = b; start = wordAt (c ∷ d ∷ e ∷ f ∷ []) 0 } ∷ sendsIn rest
+
+-- the sends that a plan's bytes say: after the first 15, as many records as its moves
+abbrev pub planIn : List ℕ → List Send
+planIn s = sendsIn (take (6 * movesIn s) (drop 15 s))

@@ -1,3 +1,4 @@
+-- Inner: cited by the contracts of the planner's inner functions only. What the planner promises is in Answer, Traffic and PlanBytes.
 -- What the steps to a link's runs promise one another. Each link back round the ring holds the sends up: the boards on the way have `past`
 -- items of their own, so send x waits for send x - past of that link, whose item comes `spent` ticks later. That is a line, `cost * x - lag`
 -- at send x with `lag = cost * past - spent`, and the starts are the greatest of these lines.

@@ -10,11 +10,13 @@ ghost use Rattle.hop.specs.Read.{jobOf};
 ghost use Rattle.planner.specs.Answer.{answerFor, memoryFor, planAnswer, planMemory};
 ghost use Rattle.planner.specs.Outline.{Lent};
 
+mod crossings;
 mod links;
 mod records;
 mod runs;
 mod sums;
 
+pub use crossings::traffic_of;
 use hop::Check;
 use ring::Ticks;
 
@@ -22,6 +24,12 @@ use ring::Ticks;
 pub enum Planned {
     Plan { finish: u32, moves: u32, tight: u8 },
     Refused { number: u8, board: u8 },
+}
+
+// What each board sends and receives, by its number; 0 past the last board.
+pub struct Traffic {
+    pub sends: [u32; 128],
+    pub receives: [u32; 128],
 }
 
 // The refusal of a check that is no ring.

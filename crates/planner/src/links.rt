@@ -8,7 +8,8 @@ ghost use Rattle.ring.specs.Lists.{joined};
 ghost use Rattle.ring.specs.Boards.{Accepted};
 ghost use Rattle.planner.specs.PlanBytes.{linkBytes};
 ghost use Rattle.planner.specs.Runs.{oneWay, startBack};
-ghost use Rattle.planner.specs.Links.{between, wayBy, startTwo, pieceBy, Timely, Linked};
+ghost use Rattle.planner.specs.Outline.{between, carriesIn};
+ghost use Rattle.planner.specs.Links.{wayBy, startTwo, pieceBy, Timely, Linked};
 use crate::records::put_run;
 use crate::records::put_runs;
 use crate::runs::runs;
@@ -105,8 +106,8 @@ pub(crate) fn put_links(
     costs: &[u16],
 )
     requires { ⌜ Linked kind n (now loads) (now costs) (now levels) offset rounds ⌝ }
-    requires { ⌜ 15 + 6 * sum (λ i. between (getD (now levels) i 0) offset) n ≤ length (now buf) ⌝ }
-    ensures { λ _. ⌜ now (buf .exit) ≡ (take 15 (now (buf .entry)) ++ joined (λ i. pieceBy kind n (now (loads .entry)) (now (costs .entry)) (getD (now (levels .entry)) i 0) offset rounds i) n) ++ drop (15 + 6 * sum (λ i. between (getD (now (levels .entry)) i 0) offset) n) (now (buf .entry)) ⌝ }
+    requires { ⌜ 15 + 6 * sum (carriesIn (now levels) offset) n ≤ length (now buf) ⌝ }
+    ensures { λ _. ⌜ now (buf .exit) ≡ (take 15 (now (buf .entry)) ++ joined (λ i. pieceBy kind n (now (loads .entry)) (now (costs .entry)) (getD (now (levels .entry)) i 0) offset rounds i) n) ++ drop (15 + 6 * sum (carriesIn (now (levels .entry)) offset) n) (now (buf .entry)) ⌝ }
 {
     let mut from = [0u32; 128];
     let mut first = [0u64; 128];

@@ -11,7 +11,7 @@ use ring::Items;
 use ring::link_time;
 
 // The link before link l.
-fn link_before(l: usize, n: usize) -> usize
+pub(crate) fn link_before(l: usize, n: usize) -> usize
     requires { ⌜ l < n ⌝ }
     ensures { λ r. ⌜ r ≡ prev (oneWay n [] []) l ⌝ }
 {

@@ -6,7 +6,7 @@ ghost use Rattle.ring.specs.Numbers.{pick, sum, greatest};
 ghost use Rattle.ring.specs.Lists.{fill};
 ghost use Rattle.ring.specs.Boards.{ringIn, Within, mostLoad};
 ghost use Rattle.ring.specs.Plan.{level, surplusSize};
-ghost use Rattle.planner.specs.Outline.{BoardHeld, Lent, boardsIn, carriesIn, spanOf, tallyOf, outlineOf};
+ghost use Rattle.planner.specs.Outline.{BoardHeld, Lent, boardsIn, between, carriesIn, spanOf, tallyOf, outlineOf};
 use ring::Items;
 use ring::Ticks;
 
@@ -53,7 +53,7 @@ fn later(a: Ticks, b: Ticks) -> Ticks
 }
 
 pub(crate) fn apart(a: u32, b: u32) -> u32
-    ensures { λ r. ⌜ r ≡ (a - b) + (b - a) ⌝ }
+    ensures { λ r. ⌜ r ≡ between a b ⌝ }
 {
     if a < b { b - a } else { a - b }
 }

@@ -10,8 +10,6 @@ use Rattle.loads.proofs.Counted.{Between, between}
 use Rattle.loads.proofs.Records.{Held, none-held, rooms, one-held}
 use Rattle.loads.proofs.counts_by.Statement.{statement}
 use Rattle.loads.proofs.counts_by.Tie as tie
-use Rattle.loads.proofs.by_way.Reads as by-way-reads
-use Rattle.loads.proofs.one_if.Reads as one-if-reads
 
 abbrev Inv-loop : tie.InvT-loop
 Inv-loop plan moves n costs tick received₀ sent₀ k₀ received sent k = (k ≤ moves) × Held plan n costs tick k received sent

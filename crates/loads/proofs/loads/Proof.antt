@@ -13,7 +13,6 @@ use Rattle.loads.proofs.Told.{Told, told}
 use borrow.Author.Needs.{needs}
 use Rattle.loads.proofs.loads.Statement.{statement}
 use Rattle.loads.proofs.loads.Tie as tie
-use Rattle.loads.proofs.counts_by.Reads as counts-by-reads
 
 -- a job with n boards was read
 read-ring : (c : tie.After-known-told) → jobOf (c .before .before .before .before .before .before .before .args .s .now) .answer ≡ Ring (c .before .answer .given .0 .0) (c .before .answer .given .0 .1 .0)

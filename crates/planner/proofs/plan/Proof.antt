@@ -1,3 +1,4 @@
+-- `plan`: a refused job stops here, a ring's plan is written by `plan_ring`. Assumes nothing.
 use mathlib.Core.Path.{_∙_}
 use lib.ListN.{length}
 use Rattle.planner.proofs.Reading.{unread-answer, unread-memory, lent, read-answer, read-memory}

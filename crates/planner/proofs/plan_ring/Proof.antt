@@ -1,3 +1,4 @@
+-- `plan_ring`: the head and the links' records, where the numbers pass, are the plan's bytes. Assumes nothing.
 use mathlib.Core.Path.{_≡_, sym, ap, _∙_}
 use native.Mathlib.Omega.{arith}
 use lib.ListN.{length}

@@ -1,3 +1,4 @@
+-- `weigh`: a refused job stops here, a ring's numbers are weighed against the room. Assumes nothing.
 use mathlib.Core.Path.{_∙_}
 use Rattle.planner.specs.Outline.{Lent}
 use Rattle.planner.proofs.Answers.{answer-is}

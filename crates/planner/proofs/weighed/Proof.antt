@@ -1,10 +1,11 @@
-use borrow.Author.Tests.{le-ltb, lt-ltb, eq-eqb, ne-eqb}
+-- `weighed`: each return by the tests that led there. Assumes nothing.
+use borrow.Author.Tests.{le-ltb, lt-ltb}
 use borrow.Author.Needs.{needs}
 use Rattle.planner.proofs.weighed.Statement.{statement}
 use Rattle.planner.proofs.weighed.Tie as tie
 
 returns : tie.Need-returns
-returns c = search (needs, le-ltb, lt-ltb, eq-eqb, ne-eqb)
+returns c = search (needs, le-ltb, lt-ltb)
 
 mul-if2 : tie.Need-mul-if2
 mul-if2 c = search needs
@@ -13,13 +14,13 @@ add-if2 : tie.Need-add-if2
 add-if2 c = search needs
 
 returns-2 : tie.Need-returns-2
-returns-2 c = search (needs, le-ltb, lt-ltb, eq-eqb, ne-eqb)
+returns-2 c = search (needs, le-ltb, lt-ltb)
 
 cast-t10 : tie.Need-cast-t10
 cast-t10 c = search needs
 
 returns-3 : tie.Need-returns-3
-returns-3 c = search (needs, le-ltb, lt-ltb, eq-eqb, ne-eqb)
+returns-3 c = search (needs, le-ltb, lt-ltb)
 
 pub weighed-spec : {M : Type 1} → statement M
 weighed-spec = tie.close (tie.spec returns mul-if2 add-if2 returns-2 cast-t10 returns-3)

@@ -1,4 +1,4 @@
--- `planner::links::put_link`: by kind, the writer of one link. Assumes nothing.
+-- `links::put_link`: by kind, the writer of one link. Assumes nothing.
 use mathlib.Core.Path.{_∙_}
 use native.Mathlib.Omega.{arith}
 use Rattle.planner.proofs.Linking.{piece-two, piece-one}

@@ -1,10 +1,12 @@
+-- `links::put_links`: the records of the links so far stand after the head. Assumes nothing.
 use borrow.Author.Needs.{needs}
-use Prim.Native.Nat.{ℕ, _+_, _*_, _≤_, _<_, _-_}
+use Prim.Native.Nat.{ℕ, _+_, _*_, _≤_, _-_}
 use mathlib.Core.List.{List}
-use mathlib.Core.Path.{_≡_, refl, sym, ap, _∙_}
+use mathlib.Core.Path.{_≡_, refl}
 use native.Mathlib.Omega.{arith}
 use lib.ListN.{length, getD, length-take, length-drop}
-use Rattle.planner.specs.Links.{between, pieceBy}
+use Rattle.planner.specs.Outline.{carriesIn}
+use Rattle.planner.specs.Links.{pieceBy}
 use Rattle.planner.proofs.Grow.{Written, none-yet, one-more, all-written, sum-within}
 use Rattle.planner.proofs.Bytes.{link-long}
 use Rattle.planner.proofs.links.put_links.Statement.{statement}
@@ -13,12 +15,9 @@ use Rattle.planner.proofs.links.put_links.Tie as tie
 abbrev pieces : ℕ → ℕ → List ℕ → List ℕ → List ℕ → ℕ → ℕ → ℕ → List ℕ
 pieces kind n loads costs levels offset rounds j = pieceBy kind n loads costs (getD levels j 0) offset rounds j
 
-abbrev items : List ℕ → ℕ → ℕ → ℕ
-items levels offset j = between (getD levels j 0) offset
-
 abbrev Inv-loop : tie.InvT-loop
 Inv-loop buf₀ kind n levels offset rounds loads costs from₀ first₀ step₀ at₀ i₀ buf from first step at i =
-    (i ≤ n) × Written 15 (pieces kind n loads costs levels offset rounds) (items levels offset) buf₀ i at buf × (length from ≡ 128) × (length first ≡ 128) × (length step ≡ 128)
+    (i ≤ n) × Written 15 (pieces kind n loads costs levels offset rounds) (carriesIn levels offset) buf₀ i at buf × (length from ≡ 128) × (length first ≡ 128) × (length step ≡ 128)
 
 abbrev μ-loop : tie.MeasureT-loop
 μ-loop buf₀ kind n levels offset rounds loads costs from₀ first₀ step₀ at₀ i₀ buf from first step at i = n - i
@@ -26,16 +25,16 @@ abbrev μ-loop : tie.MeasureT-loop
 loop-holds : tie.Need-loop-holds Inv-loop μ-loop
 loop-holds c =
     let a = c .before .before .before .before .args in
-    (omega arith, none-yet (pieces (a .kind) (a .n) (a .loads .now) (a .costs .now) (a .levels .now) (a .offset) (a .rounds)) (items (a .levels .now) (a .offset)) (a .buf .now) (omega (arith, c .before .before .before .before .pre .1)), refl, refl, refl)
+    (omega arith, none-yet (pieces (a .kind) (a .n) (a .loads .now) (a .costs .now) (a .levels .now) (a .offset) (a .rounds)) (carriesIn (a .levels .now) (a .offset)) (a .buf .now) (omega (arith, c .before .before .before .before .pre .1)), refl, refl, refl)
 
 -- the link's records fit
 room : (c : tie.In-loop Inv-loop μ-loop)
     → let l = c .before in let a = l .before .before .before .before .before .args in
-    l .loop .at + 6 * between (getD (a .levels .now) (l .loop .i) 0) (a .offset) ≤ length (a .buf .now)
+    l .loop .at + 6 * carriesIn (a .levels .now) (a .offset) (l .loop .i) ≤ length (a .buf .now)
 room c =
     let l = c .before in
     let s = l .before .before .before .before .before in
-    omega (arith, sum-within (items (s .args .levels .now) (s .args .offset)) (l .loop .i) (s .args .n) (c .loop-test .taken), l .loop .inv .1 .up-to, s .pre .1)
+    omega (arith, sum-within (carriesIn (s .args .levels .now) (s .args .offset)) (l .loop .i) (s .args .n) (c .loop-test .taken), l .loop .inv .1 .up-to, s .pre .1)
 
 mul-level : tie.Need-mul-level Inv-loop μ-loop
 mul-level c = search needs
@@ -98,7 +97,7 @@ loop-again c =
     let l = m .before in
     let a = l .before .before .before .before .before .args in
     let t =
-    one-more (pieces (a .kind) (a .n) (a .loads .now) (a .costs .now) (a .levels .now) (a .offset) (a .rounds)) (items (a .levels .now) (a .offset)) (a .buf .now) (u .put-link .last .0)
+    one-more (pieces (a .kind) (a .n) (a .loads .now) (a .costs .now) (a .levels .now) (a .offset) (a .rounds)) (carriesIn (a .levels .now) (a .offset)) (a .buf .now) (u .put-link .last .0)
     (l .loop .inv .1) (link-long _ _ _ _) (room m) (u .put-link .ensures) in
     (omega arith, rw (c .apart .ensures) t, omega (arith, u .put-link .kept), omega (arith, u .put-link .kept), omega (arith, u .put-link .kept))
 
@@ -109,7 +108,7 @@ returns : tie.Need-returns Inv-loop μ-loop
 returns c =
     let l = c .before in
     let a = l .before .before .before .before .before .args in
-    all-written (pieces (a .kind) (a .n) (a .loads .now) (a .costs .now) (a .levels .now) (a .offset) (a .rounds)) (items (a .levels .now) (a .offset)) (a .buf .now) (a .n) (omega arith) (l .loop .inv .1)
+    all-written (pieces (a .kind) (a .n) (a .loads .now) (a .costs .now) (a .levels .now) (a .offset) (a .rounds)) (carriesIn (a .levels .now) (a .offset)) (a .buf .now) (a .n) (omega arith) (l .loop .inv .1)
 
 pub put-links-spec : {M : Type 1} → statement M
 put-links-spec =

@@ -1,4 +1,4 @@
--- `planner::links::put_one_way`: the runs have the link's starts, and their records are the link's. Assumes nothing.
+-- `links::put_one_way`: the runs have the link's starts, and their records are the link's. Assumes nothing.
 use mathlib.Core.Path.{_∙_}
 use native.Mathlib.Omega.{arith}
 use borrow.Author.Needs.{needs}

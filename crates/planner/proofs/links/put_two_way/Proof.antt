@@ -1,3 +1,4 @@
+-- `links::put_two_way`: forward or back, one even run. Assumes nothing.
 use mathlib.Core.Path.{_∙_}
 use Prim.Native.Nat.{_*_, _-_, _≤_}
 use native.Mathlib.Omega.{arith}

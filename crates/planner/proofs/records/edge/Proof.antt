@@ -1,4 +1,4 @@
--- By the test.
+-- `records::edge`: each return by the test that led there. Assumes nothing.
 use borrow.Author.Tests.{le-ltb, lt-ltb}
 use borrow.Author.Needs.{needs}
 use Rattle.planner.proofs.records.edge.Statement.{statement}

@@ -1,4 +1,4 @@
--- The stores are the head's bytes.
+-- `records::put_head`: the stores are the head's bytes. Assumes nothing.
 use native.Mathlib.Omega.{arith}
 use lib.ListN.{length-set}
 use lib.Seq.{sets-eq}

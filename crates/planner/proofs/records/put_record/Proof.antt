@@ -1,4 +1,4 @@
--- The stores are the record's bytes.
+-- `records::put_record`: the stores are the record's bytes. Assumes nothing.
 use native.Mathlib.Omega.{arith}
 use lib.ListN.{length-set}
 use lib.Seq.{sets-eq}

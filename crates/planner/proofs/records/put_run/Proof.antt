@@ -1,4 +1,4 @@
--- The records so far are at the front, and the next start is at hand.
+-- `records::put_run`: the records so far are at the front, and the next start is at hand. Assumes nothing.
 use mathlib.Core.Path.{_≡_, _∙_}
 use mathlib.Core.List.{List, [], _++_}
 use Prim.Native.Nat.{ℕ, _+_, _*_, _-_, _≤_}

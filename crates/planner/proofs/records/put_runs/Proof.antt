@@ -1,4 +1,4 @@
--- The runs so far are at the front.
+-- `records::put_runs`: the runs so far are at the front. Assumes nothing.
 use mathlib.Core.Path.{_≡_}
 use Prim.Native.Nat.{_-_, _≤_}
 use native.Mathlib.Omega.{arith}

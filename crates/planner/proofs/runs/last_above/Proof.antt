@@ -1,4 +1,4 @@
--- `planner::runs::last_above`: no run after j begins above the line. Assumes nothing.
+-- `runs::last_above`: no run after j begins above the line. Assumes nothing.
 use borrow.Author.Needs.{needs}
 use Prim.Native.Nat.{ℕ, _+_, _*_, _-_, _≤_, _<_}
 use native.Mathlib.Omega.{arith}

@@ -1,4 +1,4 @@
--- `planner::runs::lay`: each way out by its law. Assumes nothing.
+-- `runs::lay`: each way out by its law. Assumes nothing.
 use mathlib.Core.Path.{_≡_, refl}
 use Prim.Native.Nat.{ℕ, suc, _+_, _*_, _-_, _≤_, _<_}
 use native.Mathlib.Omega.{arith}

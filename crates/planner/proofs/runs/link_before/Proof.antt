@@ -1,4 +1,4 @@
--- `planner::runs::link_before`: by whether the link is link 0. Assumes nothing.
+-- `runs::link_before`: by whether the link is link 0. Assumes nothing.
 use mathlib.Core.List.{[]}
 use Rattle.planner.specs.Runs.{oneWay}
 use Rattle.planner.proofs.RunRing.{prev-zero, prev-more}

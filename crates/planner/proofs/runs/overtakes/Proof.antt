@@ -1,4 +1,4 @@
--- `planner::runs::overtakes`: a quotient, rounded up. Assumes nothing.
+-- `runs::overtakes`: a quotient, rounded up. Assumes nothing.
 use native.Mathlib.Omega.{arith}
 use native.Mathlib.Nat.{div-le-self}
 use Prim.Native.Nat.{_+_, _-_, _/_, _≤_}

@@ -1,4 +1,4 @@
--- `planner::runs::put`: three stores. Assumes nothing.
+-- `runs::put`: three stores. Assumes nothing.
 use mathlib.Core.Path.{refl, ap}
 use Prim.Native.Nat.{ℕ, _-_}
 use lib.ListN.{set}

@@ -1,14 +1,12 @@
--- `planner::runs::runs`: the walk back round the ring, link by link. Assumes nothing.
+-- `runs::runs`: the walk back round the ring, link by link. Assumes nothing.
 use borrow.Author.Needs.{needs}
 use mathlib.Core.Path.{_≡_, refl, _∙_}
 use mathlib.Core.Logic.{_⊎_, inl, inr}
-use mathlib.Core.List.{[]}
 use Prim.Native.Nat.{_+_, _*_, _-_, _≤_, _<_}
 use native.Mathlib.Omega.{arith}
 use lib.ListN.{length}
 use Rattle.planner.specs.Runs.{at, oneWay, startBack, Runs}
 use Rattle.planner.specs.RunSteps.{Stack}
-use Rattle.planner.proofs.RunRing.{prev-same}
 use Rattle.planner.proofs.RunLay.{put-list}
 use Rattle.planner.proofs.RunWalk.{Walk, reached, turn, settled, one-stack, begin}
 use Rattle.planner.proofs.runs.runs.Statement.{statement}
@@ -111,7 +109,7 @@ loop-holds c =
       one-stack (at (q .last .0)) (at (q .last .1 .0)) (at (q .last .1 .1 .0)) (f .at) z (a .count),
       begin (at (q .last .0)) (at (q .last .1 .0)) (at (q .last .1 .1 .0)) (f .at) z (a .count) r (s .pre .0) (a .i) (s .pre .1 .0 .0) (t .at)
           (a .n - 1) (c .link-before .result) (omega (arith, s .pre .0 .boards))
-          (c .link-before .ensures ∙ prev-same (oneWay (a .n) [] []) r (a .i) refl),
+          (c .link-before .ensures),
     )
 
 same-length : tie.Need-same-length Inv-loop μ-loop
@@ -210,7 +208,7 @@ loop-again c =
       turn r (s .pre .0) (a .i) (a .count) (at (l .loop .from)) (at (l .loop .first)) (at (l .loop .step)) (l .loop .m) (i .8)
           (a .n - l .loop .k) (l .loop .l) (l .loop .past) (l .loop .spent) (i .9) (b .if1 .left)
           (at (y .lay .last .0)) (at (y .lay .last .1 .0)) (at (y .lay .last .1 .1 .0)) (y .lay .result) (a .n - (l .loop .k + 1)) (c .link-before2 .result)
-          (omega (arith, b .before .loop-test .taken)) (c .link-before2 .ensures ∙ prev-same (oneWay (a .n) [] []) r (l .loop .l) refl) t,
+          (omega (arith, b .before .loop-test .taken)) (c .link-before2 .ensures) t,
     )
 
 same-length-4 : tie.Need-same-length-4 Inv-loop μ-loop

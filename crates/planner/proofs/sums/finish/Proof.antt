@@ -12,7 +12,7 @@ returns : tie.Need-returns
 returns c = rw (eq-eqb _ _ (c .before .if1 .taken)) (omega (arith, c .link-time .ensures))
 
 returns-2 : tie.Need-returns-2
-returns-2 c = search (needs, eq-eqb, ne-eqb)
+returns-2 c = search (needs, ne-eqb)
 
 pub finish-spec : {M : Type 1} → statement M
 finish-spec = tie.close (tie.spec link-time-requires returns returns-2)

@@ -1,5 +1,5 @@
 -- `sums::heavier`: each return by the test that led there. Assumes nothing.
-use borrow.Author.Tests.{le-ltb, lt-ltb, eq-eqb, ne-eqb}
+use borrow.Author.Tests.{le-ltb, lt-ltb}
 use borrow.Author.Needs.{needs}
 use Rattle.planner.proofs.sums.heavier.Statement.{statement}
 use Rattle.planner.proofs.sums.heavier.Tie as tie
@@ -8,10 +8,10 @@ cast-result : tie.Need-cast-result
 cast-result c = search needs
 
 returns : tie.Need-returns
-returns c = search (needs, le-ltb, lt-ltb, eq-eqb, ne-eqb)
+returns c = search (needs, le-ltb, lt-ltb)
 
 returns-2 : tie.Need-returns-2
-returns-2 c = search (needs, le-ltb, lt-ltb, eq-eqb, ne-eqb)
+returns-2 c = search (needs, le-ltb, lt-ltb)
 
 pub heavier-spec : {M : Type 1} → statement M
 heavier-spec = tie.close (tie.spec cast-result returns returns-2)

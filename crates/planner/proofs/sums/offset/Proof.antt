@@ -1,5 +1,5 @@
 -- `sums::offset`: each return by the test that led there. Assumes nothing.
-use borrow.Author.Tests.{le-ltb, lt-ltb, eq-eqb, ne-eqb}
+use borrow.Author.Tests.{eq-eqb, ne-eqb}
 use borrow.Author.Needs.{needs}
 use Rattle.planner.proofs.sums.offset.Statement.{statement}
 use Rattle.planner.proofs.sums.offset.Tie as tie
@@ -11,10 +11,10 @@ add-result : tie.Need-add-result
 add-result c = search needs
 
 returns : tie.Need-returns
-returns c = search (needs, le-ltb, lt-ltb, eq-eqb, ne-eqb)
+returns c = search (needs, eq-eqb)
 
 returns-2 : tie.Need-returns-2
-returns-2 c = search (needs, le-ltb, lt-ltb, eq-eqb, ne-eqb)
+returns-2 c = search (needs, ne-eqb)
 
 pub offset-spec : {M : Type 1} → statement M
 offset-spec = tie.close (tie.spec sub-result add-result returns returns-2)

@@ -1,0 +1,103 @@
+-- From bytes to bytes: what `plan` answers and leaves, by its contract, for every job and every lent buffer. Each statement stands under
+-- the words of document 01 that it is. Assumes nothing.
+use mathlib.Core.Path.{_≡_, refl, sym, ap, subst, _∙_}
+use mathlib.Core.List.{List, _++_}
+use Prim.Native.Nat.{ℕ, _≤_, _<_}
+use native.Mathlib.Omega.{arith}
+use lib.ListN.{length, take, drop, length-append, length-drop}
+use lib.Seq.{drop-at}
+use borrow.Author.Tests.{lt-ltb, le-ltb}
+use Rattle.ring.specs.Boards.{Ring, Accepted}
+use Rattle.ring.specs.Schedule.{Send, Valid, finish}
+use Rattle.ring.specs.Plan.{plan, finishOf, moves, tight}
+use Rattle.ring.proofs.Bounds.{moves-most}
+use Rattle.ring.proofs.Demand3.{plan-is-valid, finish-is, none-sooner, moves-is, finish-fits}
+use Rattle.hop.specs.declared.Check.the-variants.{Ring as Read, Refused as Unread}
+use Rattle.hop.specs.Refusals.{numberOf, placeOf}
+use Rattle.hop.specs.Read.{jobOf}
+use Rattle.hop.proofs.Accepted.{job-accepted}
+use Rattle.planner.specs.declared.Planned.{Planned}
+use Rattle.planner.specs.declared.Planned.the-variants.{Plan, Refused}
+use Rattle.planner.specs.PlanBytes.{headBytes, planBytes, planLength, finishIn, movesIn, planIn}
+use Rattle.planner.specs.Answer.{answerFor, ringFor, planAnswer, planMemory}
+use Rattle.planner.proofs.Bytes.{head-long, records-long}
+use Rattle.planner.proofs.ReadBack.{fitting, finish-back, moves-back, plan-back}
+use Rattle.planner.proofs.Reading.{unread-answer, unread-memory, read-answer, read-memory}
+
+-- the answer p, and the buffer ys that held xs, where the job is ring r and the buffer has room for its plan. `planIn ys` are the sends
+-- that the buffer's bytes say
+pub record Closed (r : Ring) (xs ys : List ℕ) (p : Planned) : Type 0 where
+  -- "it returns .. finish, moves and tight link (planner and query)"
+  pub answer : p ≡ Plan (finishOf r) (moves r) (tight r)
+  -- "Plan: mark "PLN", version (16 bits, value 1), kind (1), n (1), finish (32), moves (32)"
+  pub head : take 15 ys ≡ headBytes (r .kind) (r .n) (finishOf r) (moves r)
+  -- "then a record for each send": the records say the sends of section "The plan"
+  pub sends : planIn ys ≡ plan r
+  -- "A valid schedule": all its rules, with "after all sends each board has load − surplus"
+  pub valid : Valid r (planIn ys)
+  -- "The finish is the largest end": it is the finish that the bytes say
+  pub ends : finish r (planIn ys) ≡ finishIn ys
+  -- "the least finish time": no valid schedule of the ring ends sooner
+  pub none-before : (σ : List Send) → Valid r σ → finish r (planIn ys) ≤ finish r σ
+  -- "an invented move or send count (.. it is the number of records)"
+  pub counted : length (planIn ys) ≡ movesIn ys
+  -- "Success changes only the bytes or places of the result": "Length 15 + 6 × moves"
+  pub rest : drop (planLength r) ys ≡ drop (planLength r) xs
+  pub long : length ys ≡ length xs
+
+module _ (r : Ring) (ok : Accepted r) (xs : List ℕ) where
+  few : moves r < 4294967296
+  few = omega (arith, moves-most r ok)
+
+  bytes-long : length (planBytes r) ≡ planLength r
+  bytes-long = simp (length-append, head-long, records-long, moves-is r ok)
+
+  -- the bytes of a plan, and then what was there
+  laid : planLength r ≤ length xs → Closed r xs (planBytes r ++ drop (planLength r) xs) (Plan (finishOf r) (moves r) (tight r))
+  unfolding headBytes
+  laid room =
+      let tail = drop (planLength r) xs in
+      let fits = finish-fits r ok in
+      let good = plan-is-valid r ok in
+      let back = plan-back r tail (moves-is r ok) few (fitting r (omega (arith, ok .boards)) (plan r) (good .allowed) (omega (arith, finish-is r ok))) in
+      record {
+        answer = refl;
+        head = refl;
+        sends = back;
+        valid = subst (Valid r) (sym back) good;
+        ends = ap (finish r) back ∙ finish-is r ok ∙ sym (finish-back r tail (fits .1));
+        none-before = λ σ v. rw back (none-sooner r ok σ v);
+        counted = ap length back ∙ moves-is r ok ∙ sym (moves-back r tail few);
+        rest = drop-at (planBytes r) tail (planLength r) bytes-long;
+        long = length-append (planBytes r) tail ∙ omega (arith, bytes-long, length-drop (planLength r) xs);
+      }
+
+  has-room : planLength r ≤ length xs → answerFor r (length xs) ≡ Plan (finishOf r) (moves r) (tight r)
+  has-room room = rw (le-ltb 4294967295 (finishOf r) (omega (arith, finish-fits r ok)), le-ltb (length xs) (planLength r) room)
+
+  short : length xs < planLength r → answerFor r (length xs) ≡ Refused 13 0
+  short room = rw (le-ltb 4294967295 (finishOf r) (omega (arith, finish-fits r ok)), lt-ltb (length xs) (planLength r) room)
+
+module _ (s xs : List ℕ) where
+  module _ (kind n : ℕ) (read : jobOf s .answer ≡ Read kind n) where
+    -- an accepted job, and a buffer with room
+    pub closed : planLength (ringFor (jobOf s) kind n) ≤ length xs → Closed (ringFor (jobOf s) kind n) xs (planMemory (jobOf s) xs) (planAnswer (jobOf s) (length xs))
+    closed room =
+        let r = ringFor (jobOf s) kind n in
+        let ok = job-accepted s kind n read in
+        let a = has-room r ok xs room in
+        let p : planAnswer (jobOf s) (length xs) ≡ Plan (finishOf r) (moves r) (tight r) = sym (read-answer s (jobOf s) refl kind n read (length xs)) ∙ a in
+        let m : planMemory (jobOf s) xs ≡ planBytes r ++ drop (planLength r) xs = sym (read-memory s (jobOf s) refl kind n read xs (Plan (finishOf r) (moves r) (tight r)) (sym a)) in
+        subst (λ (q : Planned). Closed r xs (planMemory (jobOf s) xs) q) (sym p)
+        (subst (λ (ys : List ℕ). Closed r xs ys (Plan (finishOf r) (moves r) (tight r))) (sym m) (laid r ok xs room))
+
+    -- "13: result longer than the lent byte buffer"; "every lent buffer keeps its bytes"
+    pub no-room : length xs < planLength (ringFor (jobOf s) kind n) → (planAnswer (jobOf s) (length xs) ≡ Refused 13 0) × (planMemory (jobOf s) xs ≡ xs)
+    no-room room =
+        let a = short (ringFor (jobOf s) kind n) (job-accepted s kind n read) xs room in
+        (sym (read-answer s (jobOf s) refl kind n read (length xs)) ∙ a, sym (read-memory s (jobOf s) refl kind n read xs (Refused 13 0) (sym a)))
+
+  -- "A refused job stops the planner at once with that number."
+  pub stops : (number board : ℕ) → jobOf s .answer ≡ Unread number board → (planAnswer (jobOf s) (length xs) ≡ Refused number board) × (planMemory (jobOf s) xs ≡ xs)
+  stops number board read =
+      (sym (unread-answer s (jobOf s) refl number board read (length xs)) ∙ (λ t. Refused (numberOf (read t)) (placeOf (read t))), sym (unread-memory s (jobOf s) refl number board read xs))

@@ -1,0 +1,54 @@
+// What each board of a job sends and receives.
+ghost use mathlib.Core.Path.{_≡_};
+ghost use Prim.Native.Nat.{ℕ, _+_, _*_, _-_, _<_, _≤_};
+ghost use lib.ListN.{length};
+ghost use Rattle.ring.specs.Boards.{mostLoad};
+ghost use Rattle.hop.specs.Read.{jobOf};
+ghost use Rattle.planner.specs.Outline.{carriesIn, crossings};
+ghost use Rattle.planner.specs.Traffic.{trafficOf};
+use crate::Traffic;
+use crate::runs::link_before;
+use crate::sums::outline_of;
+use hop::Check;
+
+fn beyond(a: u32, b: u32) -> u32
+    ensures { λ r. ⌜ r ≡ a - b ⌝ }
+{
+    if b < a { a - b } else { 0 }
+}
+
+// The traffic of n boards: board i sends forward on link i and back on the link before it, and receives the other way about.
+fn by_board(n: usize, levels: &[u32], offset: u32) -> Traffic
+    requires { ⌜ (n ≤ 128) × (n ≤ length (now levels)) × ((i : ℕ) → i < n → carriesIn (now levels) offset i ≤ 128 * mostLoad) ⌝ }
+    ensures { λ r. ⌜ r ≡ crossings n (now (levels .entry)) offset n ⌝ }
+{
+    let mut sends = [0u32; 128];
+    let mut receives = [0u32; 128];
+    for i in 0..n {
+        let here = levels[i];
+        let before = levels[link_before(i, n)];
+        sends[i] = beyond(here, offset) + beyond(offset, before);
+        receives[i] = beyond(before, offset) + beyond(offset, here);
+    }
+    Traffic { sends, receives }
+}
+
+// The sends and the receipts of each board in the plan of a job. A refused job has none.
+pub fn traffic_of(s: &[u8]) -> Traffic
+    ensures { λ r. ⌜ r ≡ trafficOf (jobOf (now (s .entry))) ⌝ }
+{
+    let job = hop::read(s);
+    let check = job.answer;
+    let Check::Ring { kind, n } = check else {
+        return Traffic {
+            sends: [0; 128],
+            receives: [0; 128],
+        };
+    };
+    let loads = job.loads;
+    let surpluses = job.surpluses;
+    let costs = job.costs;
+    let o = outline_of(kind, n as usize, &loads, &surpluses, &costs);
+    let levels = o.levels;
+    by_board(n as usize, &levels, o.offset)
+}

@@ -1,0 +1,5 @@
+pub mod Grow
+pub mod Decimal
+pub mod Texts
+pub mod Worked
+pub mod OneAnswer

@@ -1,0 +1,27 @@
+-- Document 01, "The program": the text of the planner's answer to a job.
+use mathlib.Core.List.{List, _++_}
+use Prim.Native.Nat.{ℕ}
+use Rattle.ring.specs.Boards.{Ring}
+use Rattle.ring.specs.Schedule.{sender, receiver}
+use Rattle.hop.specs.declared.Check.{Check}
+use Rattle.hop.specs.declared.Check.the-variants.{Ring as Read, Refused as Unread}
+use Rattle.hop.specs.declared.Job.{Job}
+use Rattle.planner.specs.declared.Planned.{Planned}
+use Rattle.planner.specs.declared.Planned.the-variants.{Plan, Refused}
+use Rattle.planner.specs.Answer.{ringFor, planAnswer}
+use Rattle.planner.specs.Traffic.{sendsBy}
+use Rattle.report.specs.Text.{firstLine, boardLines, refusalLine}
+
+-- a ring's plan: its first line, and a line for each board
+abbrev pub planText : Ring → ℕ → ℕ → ℕ → List ℕ
+planText r finish moves tight = firstLine finish moves tight ++ boardLines (sendsBy r (sender r)) (sendsBy r (receiver r)) (r .n)
+
+-- of a refused job the refusal; of a ring the refusal of its plan, or the plan
+abbrev pub textBy : Job → Check → Planned → List ℕ
+textBy job (Unread number board) answer = refusalLine number board
+textBy job (Read kind n) (Refused number board) = refusalLine number board
+textBy job (Read kind n) (Plan finish moves tight) = planText (ringFor job kind n) finish moves tight
+
+-- what is printed of a job that is planned into so many bytes of room
+unfoldable pub reportOf : Job → ℕ → List ℕ
+reportOf job room = textBy job (job .answer) (planAnswer job room)
