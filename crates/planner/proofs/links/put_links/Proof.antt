@@ -1,6 +1,6 @@
 -- `links::put_links`: the records of the links so far stand after the head. Assumes nothing.
 use borrow.Author.Needs.{needs}
-use Prim.Native.Nat.{ℕ, _+_, _*_, _≤_, _-_}
+use Prim.Native.Nat.{ℕ, _+_, _*_, _-_, _≤_, _<_}
 use mathlib.Core.List.{List}
 use mathlib.Core.Path.{_≡_, refl}
 use native.Mathlib.Omega.{arith}
@@ -27,14 +27,17 @@ loop-holds c =
     let a = c .before .before .before .before .args in
     (omega arith, none-yet (pieces (a .kind) (a .n) (a .loads .now) (a .costs .now) (a .levels .now) (a .offset) (a .rounds)) (carriesIn (a .levels .now) (a .offset)) (a .buf .now) (omega (arith, c .before .before .before .before .pre .1)), refl, refl, refl)
 
--- the link's records fit
+-- the link is one of the ring's, and its records fit
+here : (c : tie.In-loop Inv-loop μ-loop) → c .before .loop .i < c .before .before .before .before .before .before .args .n
+here c = omega (arith, c .before .before .before .before .before .before .pre .0 .accepted .boards)
+
 room : (c : tie.In-loop Inv-loop μ-loop)
     → let l = c .before in let a = l .before .before .before .before .before .args in
     l .loop .at + 6 * carriesIn (a .levels .now) (a .offset) (l .loop .i) ≤ length (a .buf .now)
 room c =
     let l = c .before in
     let s = l .before .before .before .before .before in
-    omega (arith, sum-within (carriesIn (s .args .levels .now) (s .args .offset)) (l .loop .i) (s .args .n) (c .loop-test .taken), l .loop .inv .1 .up-to, s .pre .1)
+    omega (arith, sum-within (carriesIn (s .args .levels .now) (s .args .offset)) (l .loop .i) (s .args .n) (here c), l .loop .inv .1 .up-to, s .pre .1)
 
 mul-level : tie.Need-mul-level Inv-loop μ-loop
 mul-level c = search needs
@@ -69,8 +72,9 @@ put-link-requires c κs =
     let l = m .before in
     let s = l .before .before .before .before .before in
     let fits = room m in
+    let in-ring = here m in
     let k = s .pre .0 in
-    (simp (length-take, length-drop) (omega arith), (k .accepted, (omega (arith, k .loads-long, k .costs-long), (omega arith, k .timely (l .loop .i) (m .loop-test .taken)))))
+    (simp (length-take, length-drop) (omega arith), (k .accepted, (omega (arith, k .loads-long, k .costs-long), (omega arith, k .timely (l .loop .i) (here m)))))
 
 apart-requires : tie.Need-apart-requires Inv-loop μ-loop
 apart-requires c κs = search needs
@@ -99,7 +103,7 @@ loop-again c =
     let t =
     one-more (pieces (a .kind) (a .n) (a .loads .now) (a .costs .now) (a .levels .now) (a .offset) (a .rounds)) (carriesIn (a .levels .now) (a .offset)) (a .buf .now) (u .put-link .last .0)
     (l .loop .inv .1) (link-long _ _ _ _) (room m) (u .put-link .ensures) in
-    (omega arith, rw (c .apart .ensures) t, omega (arith, u .put-link .kept), omega (arith, u .put-link .kept), omega (arith, u .put-link .kept))
+    (omega (arith, here m), rw (c .apart .ensures) t, omega (arith, u .put-link .kept), omega (arith, u .put-link .kept), omega (arith, u .put-link .kept))
 
 same-length : tie.Need-same-length Inv-loop μ-loop
 same-length c = search needs

@@ -8,10 +8,10 @@ cast-result : tie.Need-cast-result
 cast-result c = search needs
 
 returns : tie.Need-returns
-returns c = search (needs, le-ltb, lt-ltb)
+returns c = simp (lt-ltb (c .before .args .most) (c .before .args .items) (c .if1 .taken))
 
 returns-2 : tie.Need-returns-2
-returns-2 c = search (needs, le-ltb, lt-ltb)
+returns-2 c = simp (le-ltb _ _ (c .if1 .left))
 
 pub heavier-spec : {M : Type 1} → statement M
 heavier-spec = tie.close (tie.spec cast-result returns returns-2)

@@ -11,10 +11,10 @@ add-result : tie.Need-add-result
 add-result c = search needs
 
 returns : tie.Need-returns
-returns c = search (needs, eq-eqb)
+returns c = simp (eq-eqb _ _ (c .if1 .taken))
 
 returns-2 : tie.Need-returns-2
-returns-2 c = search (needs, ne-eqb)
+returns-2 c = simp (ne-eqb _ _ (c .if1 .left))
 
 pub offset-spec : {M : Type 1} → statement M
 offset-spec = tie.close (tie.spec sub-result add-result returns returns-2)
