@@ -11,7 +11,7 @@ use Rattle.ring.specs.Schedule.{Send, Allowed}
 use Rattle.ring.specs.Plan.{plan, finishOf, moves}
 use Rattle.ring.proofs.Moves.{as-many}
 use Rattle.planner.specs.PlanBytes.{sendBytes, recordsOf, headBytes, planBytes}
-use Rattle.planner.proofs.Joined.{joined-same}
+use Rattle.hop.proofs.Pieces.{joined-same}
 use Rattle.planner.proofs.Bytes.{send-long, head-long}
 use Rattle.planner.proofs.ReadBack.{Fitting, word-back}
 use Rattle.loads.specs.Counts.{recordPlace, recordAt, recordsIn}

@@ -9,7 +9,7 @@ use Rattle.ring.specs.Boards.{Ring}
 use Rattle.ring.specs.Schedule.{Send}
 use Rattle.ring.specs.Plan.{plan, sendOf, linkSends, carries}
 use Rattle.planner.specs.PlanBytes.{sendBytes, linkBytes, recordsOf, headBytes}
-use Rattle.planner.proofs.Joined.{joined-same}
+use Rattle.hop.proofs.Pieces.{joined-same}
 
 pub send-long : (s : Send) → length (sendBytes s) ≡ 6
 unfolding sendBytes

@@ -14,9 +14,10 @@ use Rattle.ring.specs.Lists.{joined}
 use Rattle.planner.specs.PlanBytes.{sendBytes, linkBytes}
 use Rattle.planner.specs.Runs.{at, In}
 use Rattle.planner.specs.EvenRuns.{edgeOf, Even, runsBytes}
-use Rattle.planner.proofs.Joined.{joined-add, joined-same}
+use Rattle.hop.proofs.Pieces.{joined-same}
+use Rattle.hop.proofs.Grow.{Begins, more}
+use Rattle.planner.proofs.Joined.{joined-add}
 use Rattle.planner.proofs.Bytes.{link-long}
-use Rattle.planner.proofs.Grow.{Begins, more}
 
 -- the runs below e are written, up to send `begin`
 pub record Ran (from first step : List ℕ) (m count link way : ℕ) (part : List ℕ) (begin e : ℕ) (now : List ℕ) : Type 0 where

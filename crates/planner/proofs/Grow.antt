@@ -1,41 +1,17 @@
--- A buffer that is written piece by piece from its front: what a callee that was lent the part from `at` on says of the part, said
--- of the whole. Assumes nothing.
+-- A buffer whose links are written one after the other, each six bytes for each of its sends. Assumes nothing.
 use mathlib.Core.Path.{_≡_, refl, ap, _∙_}
-use mathlib.Core.List.{List, [], _++_, append-assoc, append-nil}
+use mathlib.Core.List.{List, _++_, append-nil}
 use Prim.Native.Nat.{ℕ, suc, _+_, _*_, _-_, _≤_, _<_}
 use native.Mathlib.Omega.{arith}
 use native.Mathlib.Nat.{le-refl}
 use native.Mathlib.Decide.{le-ind}
 use native.Mathlib.Numerals.{add-one}
-use lib.ListN.{length, take, drop, length-append, length-drop, drop-of-length-le, take-append-drop}
-use lib.Seq.{take-all, take-at, drop-at, drop-drop, length-take-le}
+use lib.ListN.{length, take, drop, take-append-drop}
+use lib.Seq.{take-at, drop-at, drop-drop, length-take-le}
 use borrow.Rule.Slice.PartMut.{putMid, midOf}
 use Rattle.ring.specs.Numbers.{sum}
 use Rattle.ring.specs.Lists.{joined}
-
--- what held xs begins now with p, of `at` bytes, and goes on as it was
-pub record Begins (xs p : List ℕ) (at : ℕ) (now : List ℕ) : Type 0 where
-  pub is : now ≡ p ++ drop at xs
-  pub long : length p ≡ at
-  pub same : length now ≡ length xs
-
-module _ {xs p : List ℕ} {at : ℕ} {now : List ℕ} (b : Begins xs p at now) (ys : List ℕ) (k : ℕ) (fits : at + k ≤ length xs) where
-  -- q was written at the front of the part from `at` on
-  pub grown : (q : List ℕ) → length q ≡ k → ys ≡ q ++ drop k (midOf at (length now - at) now) → Begins xs (p ++ q) (at + k) (putMid at (length now - at) now ys)
-  grown q long wrote =
-      let none : drop (length now - at) (drop at now) ≡ [] = drop-of-length-le (drop at now) {i = length now - at} (simp length-drop (omega arith)) in
-      let part : midOf at (length now - at) now ≡ drop at now = take-all (length now - at) (drop at now) (simp length-drop (omega arith)) in
-      let e : putMid at (length now - at) now ys ≡ (p ++ q) ++ drop (at + k) xs =
-      rw (none, append-nil, wrote, part) (simp (b .is, take-at p (drop at xs) at (b .long), drop-at p (drop at xs) at (b .long), drop-drop, append-assoc))
-      in
-      let l : length (p ++ q) ≡ at + k = length-append p q ∙ (λ i. b .long i + long i) in
-      record { is = e; long = l; same = rw e (simp (length-append, length-drop, b .long, long) (omega arith)) }
-
--- piece i was written there, after those before it
-pub more : {xs : List ℕ} {at : ℕ} {now : List ℕ} (p : List ℕ) (g : ℕ → List ℕ) (i k : ℕ) (ys : List ℕ) → Begins xs (p ++ joined g i) at now → length (g i) ≡ k → at + k ≤ length xs → ys ≡ g i ++ drop k (midOf at (length now - at) now)
-    → Begins xs (p ++ joined g (i + 1)) (at + k) (putMid at (length now - at) now ys)
-unfolding joined
-more p g i k ys b long fits wrote = rw (add-one, joined, ← append-assoc p (joined g i) (g i)) (grown b ys k fits (g i) long wrote)
+use Rattle.hop.proofs.Grow.{Begins, more}
 
 -- the terms below n are at least those up to i
 pub sum-within : (w : ℕ → ℕ) (i n : ℕ) → i < n → sum w i + w i ≤ sum w n

@@ -18,7 +18,7 @@ use Rattle.ring.proofs.Best.{timed}
 use Rattle.planner.specs.PlanBytes.{sendBytes, recordsOf}
 use Rattle.planner.specs.Runs.{oneWay, startBack}
 use Rattle.planner.specs.Links.{startBy, pieceBy, Linked}
-use Rattle.planner.proofs.Joined.{joined-same}
+use Rattle.hop.proofs.Pieces.{joined-same}
 use Rattle.planner.proofs.Bytes.{records-plan}
 use Rattle.planner.proofs.RunRing.{back-same, starts-same, one-way}
 

@@ -9,7 +9,7 @@ use lib.ListN.{length, take, drop, set, getD, length-append, length-drop}
 use lib.Seq.{take-all, drop-cons, take-suc, set-at, append-snoc}
 use borrow.Rule.Slice.PartMut.{putMid, midOf}
 use Rattle.ring.specs.Lists.{joined}
-use Rattle.planner.proofs.Grow.{Begins, grown}
+use Rattle.hop.proofs.Grow.{Begins, grown}
 use Rattle.report.specs.Text.{over}
 
 -- a writer's answer: what held xs begins now with p, and goes on as it was

@@ -12,7 +12,7 @@ use Rattle.planner.specs.declared.Planned.the-variants.{Plan, Refused}
 use Rattle.planner.specs.declared.Traffic.{Traffic}
 use Rattle.planner.specs.Answer.{ringFor, planAnswer}
 use Rattle.planner.specs.Traffic.{sendsBy, trafficBy, trafficOf}
-use Rattle.planner.proofs.Joined.{joined-same}
+use Rattle.hop.proofs.Pieces.{joined-same}
 use Rattle.report.specs.Text.{firstLine, boardLine, boardLines, refusalLine}
 use Rattle.report.specs.Report.{textBy, reportOf}
 

@@ -9,7 +9,7 @@ use borrow.Rule.Slice.PartMut.{midOf}
 use borrow.Author.Needs.{needs}
 use Rattle.ring.specs.Lists.{joined}
 use Rattle.planner.specs.PlanBytes.{sendBytes, linkBytes}
-use Rattle.planner.proofs.Grow.{Begins, more}
+use Rattle.hop.proofs.Grow.{Begins, more}
 use Rattle.planner.proofs.Bytes.{send-long}
 use Rattle.planner.proofs.records.put_run.Statement.{statement}
 use Rattle.planner.proofs.records.put_run.Tie as tie
