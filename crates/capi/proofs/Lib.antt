@@ -1,0 +1,3 @@
+pub mod Checked
+pub mod Codes
+pub mod OneAnswer

@@ -1,0 +1,124 @@
+// For callers in other languages: the reader's check, the job writer, the planner and the loads query, on numbers and slices.
+// include/fallowroe.h declares the four functions to C.
+ghost use mathlib.Core.Path.{_≡_};
+ghost use lib.ListN.{length};
+ghost use Rattle.hop.specs.Read.{checkOf, jobOf};
+ghost use Rattle.hop.specs.Write.{writtenOf, bufferOf};
+ghost use Rattle.planner.specs.Answer.{planAnswer, planMemory};
+ghost use Rattle.loads.specs.Query.{queryAnswer, queryPlan, queryLoads};
+ghost use Rattle.capi.specs.Convention.{codeOf, valuesOf, ofCheck, ofWritten, ofPlanned};
+use hop::Check;
+use hop::Written;
+use planner::Planned;
+
+// What a caller is told: three values, or the refusal's number and board.
+enum Told {
+    Values(u64, u64, u64),
+    Refused { number: u8, board: u8 },
+}
+
+// The kind and n, or the refusal.
+fn of_check(answer: Check) -> Told
+    ensures { λ r. ⌜ r ≡ ofCheck answer ⌝ }
+{
+    match answer {
+        Check::Ring { kind, n } => Told::Values(kind as u64, n as u64, 0),
+        Check::Refused { number, board } => Told::Refused { number, board },
+    }
+}
+
+// The length written, or the refusal.
+fn of_written(answer: Written) -> Told
+    ensures { λ r. ⌜ r ≡ ofWritten answer ⌝ }
+{
+    match answer {
+        Written::Bytes(length) => Told::Values(length as u64, 0, 0),
+        Written::Refused { number, board } => Told::Refused { number, board },
+    }
+}
+
+// Finish, moves and tight link, or the refusal.
+fn of_planned(answer: Planned) -> Told
+    ensures { λ r. ⌜ r ≡ ofPlanned answer ⌝ }
+{
+    match answer {
+        Planned::Plan {
+            finish,
+            moves,
+            tight,
+        } => Told::Values(finish as u64, moves as u64, tight as u64),
+        Planned::Refused { number, board } => Told::Refused { number, board },
+    }
+}
+
+// The code of what is told, and its values in the lent places.
+fn tell(told: Told, values: &mut [u64; 3]) -> u64
+    ensures { λ r. ⌜ r ≡ codeOf told ⌝ }
+    ensures { λ _. ⌜ now (values .exit) ≡ valuesOf told (now (values .entry)) ⌝ }
+{
+    match told {
+        Told::Values(a, b, c) => {
+            *values = [a, b, c];
+            0
+        }
+        Told::Refused { number, board } => (number as u64) + 256 * (board as u64),
+    }
+}
+
+// The reader's check of any bytes: kind and n.
+#[no_mangle]
+pub extern "C" fn fallowroe_check(job: &[u8], values: &mut [u64; 3]) -> u64
+    ensures { λ r. ⌜ r ≡ codeOf (ofCheck (checkOf (now (job .entry)))) ⌝ }
+    ensures { λ _. ⌜ now (values .exit) ≡ valuesOf (ofCheck (checkOf (now (job .entry)))) (now (values .entry)) ⌝ }
+{
+    let read = hop::read(job);
+    let answer = read.answer;
+    tell(of_check(answer), values)
+}
+
+// The job of a kind and three lists, written at the front of a buffer: its length.
+#[no_mangle]
+pub extern "C" fn fallowroe_write(
+    kind: u8,
+    loads: &[u16],
+    surpluses: &[i16],
+    costs: &[u16],
+    job: &mut [u8],
+    values: &mut [u64; 3],
+) -> u64
+    ensures { λ r. ⌜ r ≡ codeOf (ofWritten (writtenOf kind (now (loads .entry)) (now (surpluses .entry)) (now (costs .entry)) (length (now (job .entry))))) ⌝ }
+    ensures { λ _. ⌜ now (job .exit) ≡ bufferOf kind (now (loads .entry)) (now (surpluses .entry)) (now (costs .entry)) (now (job .entry)) ⌝ }
+    ensures { λ _. ⌜ now (values .exit) ≡ valuesOf (ofWritten (writtenOf kind (now (loads .entry)) (now (surpluses .entry)) (now (costs .entry)) (length (now (job .entry))))) (now (values .entry)) ⌝ }
+{
+    tell(
+        of_written(hop::write(kind, loads, surpluses, costs, job)),
+        values,
+    )
+}
+
+// The plan of a job, at the front of a buffer: finish, moves and tight link.
+#[no_mangle]
+pub extern "C" fn fallowroe_plan(job: &[u8], plan: &mut [u8], values: &mut [u64; 3]) -> u64
+    ensures { λ r. ⌜ r ≡ codeOf (ofPlanned (planAnswer (jobOf (now (job .entry))) (length (now (plan .entry))))) ⌝ }
+    ensures { λ _. ⌜ now (plan .exit) ≡ planMemory (jobOf (now (job .entry))) (now (plan .entry)) ⌝ }
+    ensures { λ _. ⌜ now (values .exit) ≡ valuesOf (ofPlanned (planAnswer (jobOf (now (job .entry))) (length (now (plan .entry))))) (now (values .entry)) ⌝ }
+{
+    tell(of_planned(planner::plan(job, plan)), values)
+}
+
+// The plan as above, and the load of each board at a tick in a list's first places.
+#[no_mangle]
+pub extern "C" fn fallowroe_loads(
+    job: &[u8],
+    tick: u32,
+    plan: &mut [u8],
+    list: &mut [u32],
+    values: &mut [u64; 3],
+) -> u64
+    ensures { λ r. ⌜ r ≡ codeOf (ofPlanned (queryAnswer (jobOf (now (job .entry))) (length (now (plan .entry))) (length (now (list .entry))))) ⌝ }
+    ensures { λ _. ⌜ now (plan .exit) ≡ queryPlan (jobOf (now (job .entry))) (length (now (list .entry))) (now (plan .entry)) ⌝ }
+    ensures { λ _. ⌜ now (list .exit) ≡ queryLoads (jobOf (now (job .entry))) tick (length (now (plan .entry))) (now (list .entry)) ⌝ }
+    ensures { λ _. ⌜ now (values .exit) ≡ valuesOf (ofPlanned (queryAnswer (jobOf (now (job .entry))) (length (now (plan .entry))) (length (now (list .entry))))) (now (values .entry)) ⌝ }
+{
+    tell(of_planned(loads::loads(job, tick, plan, list)), values)
+}
