@@ -19,8 +19,8 @@ use Rattle.hop.specs.declared.Check.{Check}
 use Rattle.hop.specs.declared.Check.the-variants.{Ring, Refused as Unread}
 use Rattle.hop.specs.declared.Written.{Written}
 use Rattle.hop.specs.declared.Written.the-variants.{Bytes, Refused as Unwritten}
-use Rattle.hop.specs.Refusals.{each, eachℤ, shape, faultless, boardFault, costFault, balancedOf, ringCheck}
-use Rattle.hop.specs.Read.{jobLength, loadAt, surplusAt, costAt, headOf, bodyOf, checkOf, jobOf}
+use Rattle.hop.specs.Refusals.{each, eachℤ, goesOn, shapeOf, faultless, boardFault, costFault, balancedOf, ringCheck}
+use Rattle.hop.specs.Read.{jobLength, loadAt, surplusAt, costAt, sizesOf, headOf, checkOf, jobOf}
 use Rattle.hop.specs.Write.{listsOf, roomOf, writtenOf}
 use Rattle.planner.specs.declared.Planned.{Planned}
 use Rattle.planner.specs.declared.Planned.the-variants.{Plan, Refused as Unplanned}
@@ -83,9 +83,14 @@ module _ (kind n : ℕ) (load : ℕ → ℕ) (surplus : ℕ → ℤ) (cost : ℕ
       (picked Right (eqb kind 2) balanced-right
       (faultless-right (costFault cost) n (λ k. picked (λ (x : ℕ). x < 256) (eqb (cost k) (cost 0)) {a = 0} {b = 10} (omega arith) (omega arith)) balanced-right))
 
-shape-right : (kind n : ℕ) {next : Check} → Right next → Right (shape kind n next)
-shape-right kind n p =
-    picked Right (ltb kind 1) four (picked Right (ltb 3 kind) four (picked Right (ltb n 2) five (picked Right (ltb 128 n) five p)))
+-- a refusal stands, and what a ring goes on to is right
+on-right : (c : Check) {next : ℕ → ℕ → Check} → Right c → ((kind n : ℕ) → Right (next kind n)) → Right (goesOn c next)
+on-right (Ring kind n) p q = q kind n
+on-right (Unread number board) p q = p
+
+shape-right : (kind n : ℕ) → Right (shapeOf kind n)
+shape-right kind n =
+    picked Right (ltb kind 1) four (picked Right (ltb 3 kind) four (picked Right (ltb n 2) five (picked Right (ltb 128 n) five ring)))
   where
     four : Right (Unread 4 0)
     four = refuses (omega arith)
@@ -94,22 +99,22 @@ shape-right kind n p =
     five = refuses (omega arith)
 
 module _ (s : List ℕ) where
-  body-right : (c : Check) → Right c → Right (bodyOf s c)
-  body-right (Ring kind n) p = ring-right kind n (loadAt s) (surplusAt s) (costAt s)
-  body-right (Unread number board) p = p
+  sizes-right : Right (sizesOf s)
+  sizes-right =
+      on-right (shapeOf (getD s 5 0) (getD s 6 0)) (shape-right (getD s 5 0) (getD s 6 0))
+      (λ kind n. picked Right (eqb (length s) (jobLength n)) ring (refuses (omega arith)))
 
   check-right : Right (checkOf s)
   unfolding checkOf
   check-right =
-      body-right (headOf s)
+      on-right (headOf s)
       (picked Right (ltb (length s) 7) (refuses (omega arith))
       (picked Right (eqb (getD s 0 0) 72)
       (picked Right (eqb (getD s 1 0) 79)
-      (picked Right (eqb (getD s 2 0) 80)
-      (picked Right (eqb (halfAt s 3) 1)
-      (shape-right (getD s 5 0) (getD s 6 0) (picked Right (eqb (length s) (jobLength (getD s 6 0))) ring (refuses (omega arith))))
-      (refuses (omega arith)))
-      two) two) two))
+      (picked Right (eqb (getD s 2 0) 80) (picked Right (eqb (halfAt s 3) 1) sizes-right (refuses (omega arith))) two)
+      two)
+      two))
+      (λ kind n. ring-right kind n (loadAt s) (surplusAt s) (costAt s))
     where
       two : Right (Unread 2 0)
       two = refuses (omega arith)
@@ -119,9 +124,9 @@ module _ (s : List ℕ) where
 
 lists-right : (kind : ℕ) (loads : List ℕ) (surpluses : List ℤ) (costs : List ℕ) → Right (listsOf kind loads surpluses costs)
 lists-right kind loads surpluses costs =
-    shape-right kind (length loads)
-    (picked Right (eqb (length surpluses) (length loads))
-    (picked Right (eqb (length costs) (length loads)) (ring-right kind (length loads) (each loads) (eachℤ surpluses) (each costs)) six) six)
+    on-right (shapeOf kind (length loads)) (shape-right kind (length loads))
+    (λ k n. picked Right (eqb (length surpluses) n)
+    (picked Right (eqb (length costs) n) (ring-right k n (each loads) (eachℤ surpluses) (each costs)) six) six)
   where
     six : Right (Unread 6 0)
     six = refuses (omega arith)
