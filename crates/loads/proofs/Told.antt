@@ -37,8 +37,8 @@ use Rattle.loads.proofs.Asked.{written}
 -- m records in a buffer, for n boards of these loads and costs: with what was counted of them, `whole` holds the loads
 pub record Told (n : ℕ) (loads costs buf : List ℕ) (m : ℕ) (whole : List ℕ → List ℕ) (c : Counts) : Type 0 where
   pub few : n ≤ 128
-  pub loads-long : n ≤ length loads
-  pub costs-long : n ≤ length costs
+  pub loads-long : length loads ≡ 128
+  pub costs-long : length costs ≡ 128
   pub placed : recordPlace m ≤ length buf
   pub linked : (i : ℕ) → i < m → getD buf (recordPlace i) 0 < n
   pub covered : Covered n loads c
@@ -51,7 +51,7 @@ module _ (kind n : ℕ) (loads : List ℕ) (surpluses : List ℤ) (costs : List 
       let r = ringIn kind n loads surpluses costs in
       fitting r (omega (arith, ok .boards)) (plan r) (valid r ok .allowed) (omega (arith, ends-at r ok, finish-most r ok))
 
-  told-ring : n ≤ length loads → n ≤ length costs
+  told-ring : length loads ≡ 128 → length costs ≡ 128
       → let r = ringIn kind n loads surpluses costs in
       Told n loads costs (planBytes r ++ rest) (moves r) (fill (λ i. loadAt r (plan r) i tick) n) (countsOf (linksIn n costs) (recordsIn (planBytes r ++ rest) (moves r)) tick)
   unfolding loadAt
@@ -85,4 +85,4 @@ told s xs tick {k} {n} is e p q =
     let long = arrays s k n is in
     let w = written (jobOf s) xs is e in
     rw (p, q, w .bytes, ← (w .moves-is), is)
-    (told-ring k n (jobOf s .loads) (jobOf s .surpluses) (jobOf s .costs) ok _ tick (omega (arith, ok .boards)) (omega (arith, ok .boards)))
+    (told-ring k n (jobOf s .loads) (jobOf s .surpluses) (jobOf s .costs) ok _ tick (long .0) (long .2))

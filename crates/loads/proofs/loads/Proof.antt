@@ -20,7 +20,7 @@ read-ring c = sym (ap (λ (j : Job). j .answer) (c .before .before .before .read
 
 -- and the list has a place for each
 listed : (c : tie.Else1) → boardsOf (jobOf (c .before .before .before .before .before .before .before .before .args .s .now) .answer) ≤ length (c .before .before .before .before .before .before .before .before .args .list .now)
-listed c = rw (read-ring (c .before)) (c .if1 .left)
+listed c = rw (read-ring (c .before)) (omega arith)
 
 -- the plan stands in the buffer
 planned : (c : tie.After-known-told2)
@@ -75,7 +75,7 @@ returns-2 : tie.Need-returns-2
 returns-2 c =
     let k = c .before .before .before in
     let a = k .before .before .before .before .before .before .before .args in
-    lacks (jobOf (a .s .now)) (a .tick) (a .buf .now) (a .list .now) (rw (read-ring k) (c .before .before .if1 .taken)) (c .lacking .ensures) (c .before .weigh .ensures)
+    lacks (jobOf (a .s .now)) (a .tick) (a .buf .now) (a .list .now) (rw (read-ring k) (omega arith)) (c .lacking .ensures) (c .before .weigh .ensures)
 
 plan-requires-2 : tie.Need-plan-requires-2
 plan-requires-2 c κs = search needs
@@ -99,16 +99,17 @@ slice-aggregate-counts-by : tie.Need-slice-aggregate-counts-by
 slice-aggregate-counts-by c = search needs
 
 counts-by-requires : tie.Need-counts-by-requires
-counts-by-requires c κs = let t = planned (c .before .before .before) in ((t .few, t .costs-long, t .placed), t .linked)
+counts-by-requires c κs = let t = planned (c .before .before .before) in ((t .few, omega arith, t .placed), t .linked)
 
 slice-aggregate-tell : tie.Need-slice-aggregate-tell
-slice-aggregate-tell c = let h = c .before .before .before .before .before .before .before .before .before .before .before .before .before .before .before .before .before .read .ok in search needs
+slice-aggregate-tell c = sym (planned (c .before .before .before .before .before .before) .loads-long)
 
 tell-requires : tie.Need-tell-requires
 tell-requires c κs =
     let k = c .before .before .before .before .before .before .before in
     let t = planned k in
-    (t .few, t .loads-long, k .before .before .before .before .before .before .before .if1 .left, rw (c .before .before .before .counts-by .ensures) (t .covered))
+    let all : k .before .before .before .before .before .before .before .before .before .answer .given .0 .1 .0 ≤ length (k .before .before .before .before .before .before .before .before .before .before .before .before .before .before .before .args .list .now) = k .before .before .before .before .before .before .before .if1 .left in
+    (omega arith, omega arith, omega arith, rw (c .before .before .before .counts-by .ensures) (t .covered))
 
 same-length-3 : tie.Need-same-length-3
 same-length-3 c = search needs
