@@ -1,11 +1,13 @@
--- The query's contract fits one answer, one buffer and one list for each input, refused ones too. Assumes nothing.
+-- No two answers, and no two states of the lent buffer and the lent list, fit the contract of the query. Assumes nothing.
 use mathlib.Core.Path.{_≡_, sym, _∙_}
-use mathlib.Core.List.{List}
-use Prim.Native.Nat.{ℕ}
-use Rattle.hop.specs.Read.{jobOf}
-use Rattle.planner.specs.declared.Planned.{Planned}
-use Rattle.loads.proofs.Asked.{Meets}
+use borrow.Fn.Kinds.{Dens, resT, endedOf}
+use contract.Lifetimes.{Lfts}
+use denote.Triple.Clauses.{AtExit}
+use denote.Ref.{now}
+use Rattle.loads.proofs.loads.Kinds as loads
+use Rattle.loads.proofs.loads.Reads as loads-said
 
-module _ (s : List ℕ) (tick : ℕ) (buf list : List ℕ) where
-  pub one-answer : {a a' : Planned} {b b' l l' : List ℕ} → Meets (jobOf s) tick buf list a b l → Meets (jobOf s) tick buf list a' b' l' → (a ≡ a') × (b ≡ b') × (l ≡ l')
-  one-answer (p, (q, r)) (p', (q', r')) = (p ∙ sym p', q ∙ sym q', r ∙ sym r')
+-- lifetimes, the arguments, two answers, and what is lent as the function returns
+pub one-loads : (κs : Lfts 3) (a : Dens κs loads.ps) (x y : resT loads.r κs .Denot) (s t : AtExit (endedOf 3 loads.ps loads.r) κs)
+    → loads-said.Post κs a x s → loads-said.Post κs a y t → (x ≡ y) × (now (s .1 .1 .0) ≡ now (t .1 .1 .0)) × (now (s .1 .1 .1 .0) ≡ now (t .1 .1 .1 .0))
+one-loads κs a x y s t p q = (p .0 ∙ sym (q .0), p .1 .0 ∙ sym (q .1 .0), p .1 .1 ∙ sym (q .1 .1))
