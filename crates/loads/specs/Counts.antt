@@ -1,3 +1,4 @@
+-- Inner: cited by the contracts of the query's inner functions only. What the query promises is in Query.
 -- The sends that a plan's bytes say, and what each board has received and sent of them by a tick.
 use mathlib.Core.List.{List, []}
 use Prim.Native.Nat.{ℕ, _+_, _*_, _-_, _≤_, _<_}
