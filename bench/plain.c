@@ -1,20 +1,23 @@
-/* A plain planner in C, to time the library against: the reader's checks in document 01's order, then each send's start from the ends
-   of the link before it, which are kept in an array. Nothing here is proved. */
+/* The reader's checks in document 01's order; then each send's start from the ends of the link before it, which are kept in an array. It
+   is there to time the library against and to compare it with, and nothing of it is proved. */
 #include "plain.h"
 
 enum { MOST_BOARDS = 128, MOST_ITEMS = 64 * 4094 };
 
-/* A job that was read: S is the sum of the surpluses up to each board. */
+/* A ring that was read. s is S, the sum of the surpluses up to each board; f is what each link carries, and at the place of its first record. */
 struct ring {
     int kind, n;
-    int load[MOST_BOARDS], surplus[MOST_BOARDS], cost[MOST_BOARDS], s[MOST_BOARDS];
+    int load[MOST_BOARDS], surplus[MOST_BOARDS], cost[MOST_BOARDS], s[MOST_BOARDS], f[MOST_BOARDS];
+    size_t at[MOST_BOARDS];
 };
 
-static u32 refused(u32 number, u32 board) { return 65536 * number + board; }
+static uint64_t refused(unsigned number, unsigned board) { return number + 256 * (uint64_t)board; }
 
-static int half(const u8 *at) { return at[0] * 256 + at[1]; }
+static int size(int x) { return x < 0 ? -x : x; }
 
-static u32 read_head(const u8 *job, usize length, struct ring *r)
+static int half(const uint8_t *at) { return at[0] * 256 + at[1]; }
+
+static uint64_t read_head(const uint8_t *job, size_t length, struct ring *r)
 {
     if (length < 7) return refused(1, 0);
     if (job[0] != 'H' || job[1] != 'O' || job[2] != 'P') return refused(2, 0);
@@ -23,24 +26,20 @@ static u32 read_head(const u8 *job, usize length, struct ring *r)
     if (r->kind < 1 || r->kind > 3) return refused(4, 0);
     r->n = job[6];
     if (r->n < 2 || r->n > MOST_BOARDS) return refused(5, 0);
-    if (length != 7 + 6 * (usize)r->n) return refused(6, 0);
-    return 0;
+    return length == 7 + 6 * (size_t)r->n ? 0 : refused(6, 0);
 }
 
-static u32 read_boards(const u8 *job, struct ring *r)
+static uint64_t read_boards(const uint8_t *job, struct ring *r)
 {
     int i, sum = 0;
     for (i = 0; i < r->n; i++) {
-        const u8 *at = job + 7 + 6 * i;
-        int load = half(at), surplus = (short)half(at + 2), cost = half(at + 4);
+        const uint8_t *at = job + 7 + 6 * i;
+        int load = half(at), surplus = (int16_t)half(at + 2), cost = half(at + 4);
         if (load < 1 || load > 4095) return refused(7, i);
         if (load - surplus < 1 || load - surplus > 4095) return refused(8, i);
         if (cost < 1 || cost > 8000) return refused(9, i);
         sum += surplus;
-        r->load[i] = load;
-        r->surplus[i] = surplus;
-        r->cost[i] = cost;
-        r->s[i] = sum;
+        r->load[i] = load, r->surplus[i] = surplus, r->cost[i] = cost, r->s[i] = sum;
     }
     if (r->kind != 2)
         for (i = 1; i < r->n; i++)
@@ -48,94 +47,84 @@ static u32 read_boards(const u8 *job, struct ring *r)
     return sum == 0 ? 0 : refused(11, 0);
 }
 
-static void put_word(u8 *at, u32 x)
+static void put_word(uint8_t *at, uint32_t x)
 {
-    at[0] = x >> 24;
-    at[1] = x >> 16;
-    at[2] = x >> 8;
-    at[3] = x;
+    at[0] = x >> 24, at[1] = x >> 16, at[2] = x >> 8, at[3] = x;
 }
 
-static u8 *put_send(u8 *at, int link, int way, u32 start)
+static uint8_t *put_send(uint8_t *at, int link, int way, uint32_t start)
 {
-    at[0] = link;
-    at[1] = way;
+    at[0] = link, at[1] = way;
     put_word(at + 2, start);
     return at + 6;
 }
 
-/* Kinds 1 and 2, from the link after one that carries nothing, round the ring; f is what each link carries, at the place of its first
-   record. */
-static void one_way(const struct ring *r, const int *f, const usize *at, u8 *plan)
+/* Kinds 1 and 2: round the ring, from the link after one that carries nothing. */
+static void one_way(const struct ring *r, uint8_t *plan)
 {
-    static u32 ends[2][MOST_ITEMS + 1];
-    u32 *before = ends[0], *own = ends[1], *swap;
-    int first = 0, k, j;
-    while (f[first] != 0) first++;
+    static uint32_t ends[2][MOST_ITEMS + 1];
+    uint32_t *before = ends[0], *own = ends[1], *other;
+    int idle = 0, k, j;
+    while (r->f[idle] != 0) idle++;
     for (k = 1; k < r->n; k++) {
-        int i = (first + k) % r->n, load = r->load[i];
-        u32 cost = r->cost[i], start = 0;
-        u8 *out = plan + at[i];
-        for (j = 1; j <= f[i]; j++) {
+        int i = (idle + k) % r->n, load = r->load[i], count = r->f[i];
+        uint32_t cost = r->cost[i], start = 0;
+        uint8_t *out = plan + r->at[i];
+        for (j = 1; j <= count; j++) {
             if (j > load && before[j - load] > start) start = before[j - load];
             out = put_send(out, i, 0, start);
             start += cost;
             own[j] = start;
         }
-        swap = before;
-        before = own;
-        own = swap;
+        other = before, before = own, own = other;
     }
 }
 
 /* Kind 3: forward in the first rounds, back in the last. */
-static void two_way(const struct ring *r, const int *f, int rounds, const usize *at, u8 *plan)
+static void two_way(const struct ring *r, uint32_t rounds, uint8_t *plan)
 {
-    u32 cost = r->cost[0];
+    uint32_t cost = r->cost[0];
     int i, j;
     for (i = 0; i < r->n; i++) {
-        int back = f[i] < 0, count = back ? -f[i] : f[i];
-        u32 start = back ? (rounds - count) * cost : 0;
-        u8 *out = plan + at[i];
-        for (j = 0; j < count; j++) {
-            out = put_send(out, i, back, start);
-            start += cost;
-        }
+        int back = r->f[i] < 0, count = size(r->f[i]);
+        uint32_t start = back ? (rounds - count) * cost : 0;
+        uint8_t *out = plan + r->at[i];
+        for (j = 0; j < count; j++, start += cost) out = put_send(out, i, back, start);
     }
 }
 
-u32 plain_plan(const u8 *job, usize length, u8 *plan, usize room)
+uint64_t plain_plan(const uint8_t *job, size_t job_length, uint8_t *plan, size_t plan_room, uint64_t values[3])
 {
     struct ring r;
-    int f[MOST_BOARDS], i, low, high, rounds, most = 0, tight = 0;
-    usize at[MOST_BOARDS];
-    u64 moves = 0, finish = 0;
-    u32 fault = read_head(job, length, &r);
+    int i, low = 0, high = 0, offset, rounds, tight = 0;
+    uint64_t moves = 0, finish = 0, fault = read_head(job, job_length, &r);
     if (fault == 0) fault = read_boards(job, &r);
     if (fault != 0) return fault;
-    low = high = r.s[0];
-    for (i = 1; i < r.n; i++) {
+    /* S of the last board is 0 */
+    for (i = 0; i < r.n; i++) {
         if (r.s[i] < low) low = r.s[i];
         if (r.s[i] > high) high = r.s[i];
     }
+    offset = r.kind == 3 ? low + (high - low) / 2 : low;
     rounds = (high - low + 1) / 2;
     for (i = 0; i < r.n; i++) {
-        int count, size = r.surplus[i] < 0 ? -r.surplus[i] : r.surplus[i];
-        f[i] = r.s[i] - low - (r.kind == 3 ? (high - low) / 2 : 0);
-        count = f[i] < 0 ? -f[i] : f[i];
-        if (size > rounds) rounds = size;
-        if (count > most) most = count, tight = i;
-        if ((u64)count * r.cost[i] > finish) finish = (u64)count * r.cost[i];
-        at[i] = 15 + 6 * moves;
-        moves += count;
+        uint64_t time;
+        r.f[i] = r.s[i] - offset;
+        r.at[i] = 15 + 6 * moves;
+        moves += size(r.f[i]);
+        time = (uint64_t)size(r.f[i]) * r.cost[i];
+        if (time > finish) finish = time;
+        if (size(r.f[i]) > size(r.f[tight])) tight = i;
+        if (size(r.surplus[i]) > rounds) rounds = size(r.surplus[i]);
     }
-    if (r.kind == 3) finish = (u64)rounds * r.cost[0];
+    if (r.kind == 3) finish = (uint64_t)rounds * r.cost[0];
     if (finish > 4294967295u) return refused(12, 0);
-    if (15 + 6 * moves > room) return refused(13, 0);
+    if (15 + 6 * moves > plan_room) return refused(13, 0);
     plan[0] = 'P', plan[1] = 'L', plan[2] = 'N', plan[3] = 0, plan[4] = 1, plan[5] = r.kind, plan[6] = r.n;
     put_word(plan + 7, finish);
     put_word(plan + 11, moves);
-    if (r.kind == 3) two_way(&r, f, rounds, at, plan);
-    else one_way(&r, f, at, plan);
-    return tight;
+    if (r.kind == 3) two_way(&r, rounds, plan);
+    else one_way(&r, plan);
+    values[0] = finish, values[1] = moves, values[2] = tight;
+    return 0;
 }

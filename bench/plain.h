@@ -1,9 +1,5 @@
-/* What the C files of bench/ share: plain types, and the plain planner. */
-typedef unsigned char u8;
-typedef unsigned short u16;
-typedef unsigned int u32;
-typedef unsigned long long u64;
-typedef unsigned long usize;
+/* A plain planner in C: the same job bytes, checks, answers and plan bytes as fallowroe_plan of include/fallowroe.h. */
+#include <stddef.h>
+#include <stdint.h>
 
-/* The plan of a job, in C. Answers the tight link, or 65536 x the refusal's number + the board. */
-u32 plain_plan(const u8 *job, usize length, u8 *plan, usize room);
+uint64_t plain_plan(const uint8_t *job, size_t job_length, uint8_t *plan, size_t plan_room, uint64_t values[3]);

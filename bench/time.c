@@ -1,26 +1,17 @@
-/* Times the library's planner against the plain one on the same jobs, in the same run, and checks that their bytes are the same. */
-#include "plain.h"
+/* Times the library's planner against the plain one on the same jobs, in the same run. Both plans are first made in cleared buffers and held
+   to be the same bytes; the buffers are not cleared between the calls that are timed. */
 #include "../include/fallowroe.h"
+#include "plain.h"
 
-int printf(const char *form, ...);
-int memcmp(const void *a, const void *b, usize n);
-void *memset(void *a, int b, usize n);
-struct moment { long seconds, nanoseconds; };
-int clock_gettime(int clock, struct moment *now);
+#include <stdio.h>
+#include <string.h>
+#include <time.h>
 
-enum { MOST_ROOM = 15 + 6 * 1100000, SAMPLES = 15 };
+enum { SAMPLES = 100, ROOM = 15 + 6 * 1000000 };
 
-static u8 job[FALLOWROE_LONGEST_JOB], ours[MOST_ROOM + 1], theirs[MOST_ROOM + 1];
-static uint64_t values[3];
+typedef uint64_t planner(const uint8_t *, size_t, uint8_t *, size_t, uint64_t *);
 
-static double nanoseconds(void)
-{
-    struct moment now;
-    clock_gettime(1, &now);
-    return now.seconds * 1e9 + now.nanoseconds;
-}
-
-static void put_half(u8 *at, int x) { at[0] = x >> 8, at[1] = x; }
+static uint8_t job[FALLOWROE_LONGEST_JOB], ours[ROOM], theirs[ROOM];
 
 static void put_head(int kind, int n)
 {
@@ -29,13 +20,12 @@ static void put_head(int kind, int n)
 
 static void put_board(int i, int load, int surplus, int cost)
 {
-    put_half(job + 7 + 6 * i, load);
-    put_half(job + 7 + 6 * i + 2, surplus);
-    put_half(job + 7 + 6 * i + 4, cost);
+    uint8_t *at = job + 7 + 6 * i;
+    at[0] = load >> 8, at[1] = load, at[2] = surplus >> 8, at[3] = surplus, at[4] = cost >> 8, at[5] = cost;
 }
 
 /* Case A of document 01. */
-static usize case_a(void)
+static size_t case_a(void)
 {
     put_head(2, 4);
     put_board(0, 5, 3, 2);
@@ -45,8 +35,8 @@ static usize case_a(void)
     return 7 + 6 * 4;
 }
 
-/* 10,920 sends, which fill the program's 65,535 bytes: 2,730 items over four links whose boards hold one each. */
-static usize full(void)
+/* 10,920 sends, which fill the program's 65,535 bytes: 2,730 items over four links. */
+static size_t full_buffer(void)
 {
     put_head(2, 6);
     put_board(0, 2731, 2730, 9);
@@ -58,67 +48,62 @@ static usize full(void)
     return 7 + 6 * 6;
 }
 
-/* 64 boards of load 4,095 that each shed so many items to 64 of load 1; the costs fall along the ring, or are mixed, or are alike. */
-static usize heavy(int kind, int items, int costs)
+/* 64 boards of load 4,095 shed so many items each to 64 of load 1. In kind 2 the costs fall along the ring, so that each link waits for
+   all that are behind it, or are mixed. */
+enum costs { ALIKE, FALLING, MIXED };
+static size_t half_to_half(int kind, int items, enum costs costs)
 {
-    int i;
     put_head(kind, 128);
-    for (i = 0; i < 128; i++) {
-        int cost = costs == 0 ? 7 : costs == 1 ? 400 - 3 * i : 1 + i * 61 % 97;
-        put_board(i, i < 64 ? 4095 : 1, i < 64 ? items : -items, cost);
-    }
+    for (int i = 0; i < 128; i++)
+        put_board(i, i < 64 ? 4095 : 1, i < 64 ? items : -items, costs == ALIKE ? 7 : costs == FALLING ? 400 - 3 * i : 1 + i * 61 % 97);
     return 7 + 6 * 128;
 }
 
-/* The least time of one call of several, in nanoseconds. */
-static double least(int mine, usize length, usize room, int calls)
+/* The processor time of one call of so many in a row, in nanoseconds. */
+static double timed(planner *plan, size_t length, uint8_t *buffer, size_t room, int calls)
 {
-    double best = 0;
-    int s, k;
-    for (s = 0; s < SAMPLES; s++) {
-        double began = nanoseconds(), took;
-        for (k = 0; k < calls; k++) {
-            if (mine) fallowroe_plan(job, length, ours, room, values);
-            else plain_plan(job, length, theirs, room);
-        }
-        took = (nanoseconds() - began) / calls;
-        if (s == 0 || took < best) best = took;
-    }
-    return best;
+    struct timespec began, ended;
+    uint64_t values[3];
+    clock_gettime(CLOCK_PROCESS_CPUTIME_ID, &began);
+    for (int k = 0; k < calls; k++) plan(job, length, buffer, room, values);
+    clock_gettime(CLOCK_PROCESS_CPUTIME_ID, &ended);
+    return ((ended.tv_sec - began.tv_sec) * 1e9 + (ended.tv_nsec - began.tv_nsec)) / calls;
 }
 
-static int compare(const char *name, usize length, int calls)
+/* 1 where the two differ; else the least of several times of each is printed. */
+static int compare(const char *name, size_t length, int calls)
 {
-    u32 plain, moves;
-    uint64_t code;
-    usize room;
-    double a, b;
+    uint64_t mine[3], plain[3];
+    double library = 0, c = 0;
     memset(ours, 170, sizeof ours);
     memset(theirs, 170, sizeof theirs);
-    code = fallowroe_plan(job, length, ours, MOST_ROOM, values);
-    plain = plain_plan(job, length, theirs, MOST_ROOM);
-    moves = (u32)values[1];
-    if (code != 0 || plain != values[2] || memcmp(ours, theirs, sizeof ours) != 0) {
-        printf("%-28s DIFFERS\n", name);
+    uint64_t code = fallowroe_plan(job, length, ours, sizeof ours, mine);
+    if (code != plain_plan(job, length, theirs, sizeof theirs, plain) || code != 0 || memcmp(mine, plain, sizeof mine) != 0 ||
+        memcmp(ours, theirs, sizeof ours) != 0) {
+        printf("%-28s the two DIFFER\n", name);
         return 1;
     }
-    room = 15 + 6 * (usize)moves;
-    a = least(1, length, room, calls);
-    b = least(0, length, room, calls);
-    printf("%-28s %9u sends  library %12.0f ns %7.2f ns/send  C %12.0f ns %7.2f ns/send  ratio %.2f\n", name, moves, a, a / moves, b, b / moves, a / b);
+    double sends = mine[1];
+    size_t room = 15 + 6 * mine[1];
+    for (int s = 0; s < SAMPLES; s++) {
+        double a = timed(fallowroe_plan, length, ours, room, calls), b = timed(plain_plan, length, theirs, room, calls);
+        if (s == 0 || a < library) library = a;
+        if (s == 0 || b < c) c = b;
+    }
+    printf("%-28s %9.0f %12.0f %12.0f %10.2f %8.2f %8.2f\n", name, sends, library, c, library / sends, c / sends, library / c);
     return 0;
 }
 
 int main(void)
 {
     int wrong = 0;
-    wrong += compare("case A", case_a(), 20000);
-    wrong += compare("a full buffer", full(), 200);
-    wrong += compare("deep waits, costs fall", heavy(2, 3, 1), 100);
-    wrong += compare("deep waits, costs mixed", heavy(2, 3, 2), 100);
-    wrong += compare("deep waits, costs fall", heavy(2, 244, 1), 3);
-    wrong += compare("deep waits, costs mixed", heavy(2, 244, 2), 3);
-    wrong += compare("two way", heavy(3, 488, 0), 3);
-    printf(wrong ? "the plans DIFFER\n" : "the plans are the same\n");
+    printf("%-28s %9s %12s %12s %10s %8s %8s\n", "", "sends", "library, ns", "C, ns", "a send, ns", "in C", "ratio");
+    wrong += compare("case A", case_a(), 2000);
+    wrong += compare("a full buffer", full_buffer(), 30);
+    wrong += compare("one way, costs falling", half_to_half(2, 3, FALLING), 20);
+    wrong += compare("one way, costs mixed", half_to_half(2, 3, MIXED), 20);
+    wrong += compare("one way, costs falling", half_to_half(2, 244, FALLING), 1);
+    wrong += compare("one way, costs mixed", half_to_half(2, 244, MIXED), 1);
+    wrong += compare("two way", half_to_half(3, 488, ALIKE), 1);
     return wrong;
 }
