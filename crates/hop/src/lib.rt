@@ -236,6 +236,20 @@ fn boards(kind: u8, n: u8, loads: &[u16], surpluses: &[i16], costs: &[u16]) -> C
     alike(kind, n, surpluses, costs)
 }
 
+// The same of numbers that one job holds.
+fn boards_held<'a>(
+    kind: u8,
+    n: u8,
+    loads: &'a [u16],
+    surpluses: &'a [i16],
+    costs: &'a [u16],
+) -> Check
+    requires { ⌜ (1 ≤ n) × (n ≤ 128) × (n ≤ length (now loads)) × (n ≤ length (now surpluses)) × (n ≤ length (now costs)) ⌝ }
+    ensures { λ r. ⌜ r ≡ ringCheck kind n (each (now (loads .entry))) (eachℤ (now (surpluses .entry))) (each (now (costs .entry))) ⌝ }
+{
+    boards(kind, n, loads, surpluses, costs)
+}
+
 // An answer with zeros beside it.
 fn refused(answer: Check) -> Job
     ensures { λ r. ⌜ r ≡ bare answer ⌝ }
@@ -253,23 +267,21 @@ fn filled(s: &[u8], kind: u8, n: u8) -> Job
     requires { ⌜ (n ≤ 128) × (jobLength n ≤ length (now s)) ⌝ }
     ensures { λ r. ⌜ r ≡ beside (now (s .entry)) (Check.Ring kind n) ⌝ }
 {
-    let mut loads = [0u16; 128];
-    let mut surpluses = [0i16; 128];
-    let mut costs = [0u16; 128];
+    let mut job = Job {
+        answer: Check::Ring { kind, n },
+        loads: [0; 128],
+        surpluses: [0; 128],
+        costs: [0; 128],
+    };
     for i in 0..n {
         let k = i as usize;
         let at = job_length(i);
         let surplus = signed(half(s, at + 2));
-        loads[k] = half(s, at);
-        surpluses[k] = surplus;
-        costs[k] = half(s, at + 4);
+        job.loads[k] = half(s, at);
+        job.surpluses[k] = surplus;
+        job.costs[k] = half(s, at + 4);
     }
-    Job {
-        answer: Check::Ring { kind, n },
-        loads,
-        surpluses,
-        costs,
-    }
+    job
 }
 
 // The job of any bytes, or its first refusal of 1 to 11.
@@ -281,10 +293,7 @@ pub fn read(s: &[u8]) -> Job
         return refused(first);
     };
     let job = filled(s, kind, n);
-    let loads = job.loads;
-    let surpluses = job.surpluses;
-    let costs = job.costs;
-    let answer = boards(kind, n, &loads, &surpluses, &costs);
+    let answer = boards_held(kind, n, &job.loads, &job.surpluses, &job.costs);
     let Check::Ring { .. } = answer else {
         return refused(answer);
     };

@@ -1,5 +1,6 @@
 -- `hop::filled`: the first i places hold what the bytes say. Assumes nothing.
 use mathlib.Core.Path.{_≡_, refl, ap, _∙_}
+use mathlib.Core.List.{List}
 use Prim.Native.Nat.{ℕ, _+_, _≤_, _-_}
 use native.Mathlib.Omega.{arith}
 use native.Mathlib.Numerals.{add-one}
@@ -12,24 +13,31 @@ use mir.Facts.{toZ-ofZ}
 use Rattle.ring.specs.Lists.{fill}
 use Rattle.ring.specs.Bytes.{halfAt}
 use Rattle.hop.specs.declared.Check.the-variants.{Ring}
+use Rattle.hop.specs.declared.Job.{Job}
 use Rattle.hop.specs.Read.{loadAt, surplusAt, costAt}
 use borrow.Author.Needs.{needs}
 use Rattle.hop.proofs.filled.Statement.{statement}
 use Rattle.hop.proofs.filled.Tie as tie
 
+-- the job with its first i boards filled in
+abbrev so-far : List ℕ → ℕ → ℕ → ℕ → Job
+so-far s kind n i =
+    record {
+      answer = Ring kind n;
+      loads = fill (loadAt s) i (replicate 128 0);
+      surpluses = fill (surplusAt s) i (replicate 128 (pos 0));
+      costs = fill (costAt s) i (replicate 128 0);
+    }
+
 abbrev Inv-loop : tie.InvT-loop
-Inv-loop s kind n loads₀ surpluses₀ costs₀ i₀ loads surpluses costs i =
-    (i ≤ n)
-    × (loads ≡ fill (loadAt s) i (replicate 128 0))
-    × (surpluses ≡ fill (surplusAt s) i (replicate 128 (pos 0)))
-    × (costs ≡ fill (costAt s) i (replicate 128 0))
+Inv-loop s kind n job₀ i₀ job i = (i ≤ n) × (job ≡ so-far s kind n i)
 
 abbrev μ-loop : tie.MeasureT-loop
-μ-loop s kind n loads₀ surpluses₀ costs₀ i₀ loads surpluses costs i = n - i
+μ-loop s kind n job₀ i₀ job i = n - i
 
 loop-holds : tie.Need-loop-holds Inv-loop μ-loop
 unfolding fill
-loop-holds c = (omega arith, refl, refl, refl)
+loop-holds c = (omega arith, refl)
 
 cast-k : tie.Need-cast-k Inv-loop μ-loop
 cast-k c = search needs
@@ -49,17 +57,17 @@ signed-requires c κs = search needs
 half-requires-2 : tie.Need-half-requires-2 Inv-loop μ-loop
 half-requires-2 c κs = search needs
 
-mul-loads : tie.Need-mul-loads Inv-loop μ-loop
-mul-loads c = search needs
+mul-job : tie.Need-mul-job Inv-loop μ-loop
+mul-job c = search needs
 
-array-write-loads : tie.Need-array-write-loads Inv-loop μ-loop
-array-write-loads c = search needs
+element-write-job : tie.Need-element-write-job Inv-loop μ-loop
+element-write-job c = search needs
 
-mul-surpluses : tie.Need-mul-surpluses Inv-loop μ-loop
-mul-surpluses c = search needs
+mul-surplus : tie.Need-mul-surplus Inv-loop μ-loop
+mul-surplus c = search needs
 
-array-set-from-surpluses : tie.Need-array-set-from-surpluses Inv-loop μ-loop
-array-set-from-surpluses c = search needs
+element-set-from-surplus : tie.Need-element-set-from-surplus Inv-loop μ-loop
+element-set-from-surplus c = search needs
 
 add-half-2 : tie.Need-add-half-2 Inv-loop μ-loop
 add-half-2 c = search needs
@@ -67,11 +75,11 @@ add-half-2 c = search needs
 half-requires-3 : tie.Need-half-requires-3 Inv-loop μ-loop
 half-requires-3 c κs = search needs
 
-mul-costs : tie.Need-mul-costs Inv-loop μ-loop
-mul-costs c = search needs
+mul-job-2 : tie.Need-mul-job-2 Inv-loop μ-loop
+mul-job-2 c = search needs
 
-array-write-costs : tie.Need-array-write-costs Inv-loop μ-loop
-array-write-costs c = search needs
+element-write-job-2 : tie.Need-element-write-job-2 Inv-loop μ-loop
+element-write-job-2 c = search needs
 
 add-i : tie.Need-add-i Inv-loop μ-loop
 add-i c = search needs
@@ -88,21 +96,24 @@ loop-again c =
     let l = j .before .before in
     let s = l .before .before .args .s .now in
     let i = l .loop .i in
-    let e = j .job-length .ensures in (
+    let e = j .job-length .ensures in
+    let h = l .loop .inv .1 in
+    let z = toZ-ofZ {w = w16} {z = g .signed .result} (record { sfits = g .signed .ok }) in
+    let x = g .signed .ensures ∙ ap (toZ w16) (g .before .half .ensures ∙ ap (λ (k : ℕ). halfAt s (k + 2)) e) in (
       omega arith,
-      rw (add-one, fill) (λ t. set (l .loop .inv .1 t) i ((f .half2 .ensures ∙ ap (halfAt s) e) t)),
-      rw (add-one, fill, toZ-ofZ {w = w16} {z = g .signed .result} (record { sfits = g .signed .ok }))
-          (λ t. set (l .loop .inv .2 t) i ((g .signed .ensures ∙ ap (toZ w16) (g .before .half .ensures ∙ ap (λ (k : ℕ). halfAt s (k + 2)) e)) t)),
-      rw (add-one, fill) (λ t. set (l .loop .inv .3 t) i ((c .half3 .ensures ∙ ap (λ (k : ℕ). halfAt s (k + 4)) e) t)),
+      rw (add-one, fill, z) (λ t. record {
+        answer = h t .answer;
+        loads = set (h t .loads) i ((f .half2 .ensures ∙ ap (halfAt s) e) t);
+        surpluses = set (h t .surpluses) i (x t);
+        costs = set (h t .costs) i ((c .half3 .ensures ∙ ap (λ (k : ℕ). halfAt s (k + 4)) e) t);
+      }),
     )
 
 returns : tie.Need-returns Inv-loop μ-loop
 returns c =
     let l = c .before in
-    let a = l .before .before .args in
-    let e : l .loop .i ≡ a .n = omega arith in
-    let inv = rw e at (l .loop .inv) in
-    λ t. record { answer = Ring (a .kind) (a .n); loads = inv .1 t; surpluses = inv .2 t; costs = inv .3 t }
+    let e : l .loop .i ≡ l .before .before .args .n = omega arith in
+    rw e at (l .loop .inv .1)
 
 pub filled-spec : {M : Type 1} → statement M
 filled-spec =
@@ -117,14 +128,14 @@ filled-spec =
     half-requires
     signed-requires
     half-requires-2
-    mul-loads
-    array-write-loads
-    mul-surpluses
-    array-set-from-surpluses
+    mul-job
+    element-write-job
+    mul-surplus
+    element-set-from-surplus
     add-half-2
     half-requires-3
-    mul-costs
-    array-write-costs
+    mul-job-2
+    element-write-job-2
     add-i
     loop-less
     loop-again

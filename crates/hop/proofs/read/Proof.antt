@@ -37,18 +37,9 @@ filled-requires c κs =
     let h = headed (now (f .before .before .before .before .args .s)) (f .first .given .0 .0) (f .first .given .0 .1 .0) (ring f) in
     omega arith
 
-slice-aggregate-boards : tie.Need-slice-aggregate-boards
-slice-aggregate-boards c = search needs
-
-slice-aggregate-boards-2 : tie.Need-slice-aggregate-boards-2
-slice-aggregate-boards-2 c = search needs
-
-slice-aggregate-boards-3 : tie.Need-slice-aggregate-boards-3
-slice-aggregate-boards-3 c = search needs
-
-boards-requires : tie.Need-boards-requires
-boards-requires c κs =
-    let j = c .before .before .before .before .before .before in
+boards-held-requires : tie.Need-boards-held-requires
+boards-held-requires c κs =
+    let j = c .before .before .before .before .before .before .before in
     let f = j .before .before in
     let s = now (f .before .before .before .before .args .s) in
     let h = headed s (f .first .given .0 .0) (f .first .given .0 .1 .0) (ring f) in
@@ -56,11 +47,11 @@ boards-requires c κs =
     omega arith
 
 -- what the boards' check answers is the reader's answer
-answer : (c : tie.After-boards) → c .boards .result ≡ checkOf (now (c .before .before .before .before .before .before .before .before .before .before .before .before .before .args .s))
+answer : (c : tie.After-boards-held) → c .boards-held .result ≡ checkOf (now (c .before .before .before .before .before .before .before .before .before .before .before .before .before .before .args .s))
 answer c =
-    let j = c .before .before .before .before .before .before .before in
+    let j = c .before .before .before .before .before .before .before .before in
     let f = j .before .before in
-    c .boards .ensures
+    c .boards-held .ensures
     ∙ check-is (now (f .before .before .before .before .args .s)) (f .first .given .0 .0) (f .first .given .0 .1 .0) (ring f) (j .filled .result) (j .filled .ensures)
 
 enum-told-2 : tie.Need-enum-told-2
@@ -76,14 +67,14 @@ returns-2 : tie.Need-returns-2
 returns-2 c =
     let t = c .before .enum-told3 .given in
     let b = c .before .before .before in
-    let f = b .before .before .before .before .before .before .before .before .before in
-    c .refused2 .ensures ∙ refused (now (f .before .before .before .before .args .s)) (b .boards .result) (t .0 .0) (t .0 .1 .0) (answer b) (t .1)
+    let f = b .before .before .before .before .before .before .before .before .before .before in
+    c .refused2 .ensures ∙ refused (now (f .before .before .before .before .args .s)) (b .boards-held .result) (t .0 .0) (t .0 .1 .0) (answer b) (t .1)
 
 returns-3 : tie.Need-returns-3
 returns-3 c =
     let t = c .enum-told2 .given in
     let b = c .before .before in
-    let j = b .before .before .before .before .before .before .before in
+    let j = b .before .before .before .before .before .before .before .before in
     let f = j .before .before in
     job-is (now (f .before .before .before .before .args .s)) (f .first .given .0 .0) (f .first .given .0 .1 .0) (ring f) (j .filled .result) (j .filled .ensures)
     (t .0 .0) (t .0 .1 .0) (sym (answer b) ∙ t .1)
@@ -98,10 +89,7 @@ read-spec =
     refused-requires
     returns
     filled-requires
-    slice-aggregate-boards
-    slice-aggregate-boards-2
-    slice-aggregate-boards-3
-    boards-requires
+    boards-held-requires
     enum-told-2
     enum-told-3
     refused-requires-2
