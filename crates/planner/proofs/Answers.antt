@@ -6,24 +6,23 @@ use Prim.Native.Nat.{ℕ, _+_, _*_, _≤_, _<_}
 use native.Mathlib.Omega.{arith}
 use lib.Dec.{ltb}
 use lib.IntN.{ℤ}
-use lib.ListN.{getD, take, drop, replicate}
+use lib.ListN.{length, getD, take, drop}
 use borrow.Author.Tests.{ltb-false}
 use Rattle.ring.specs.Numbers.{pick, sum}
-use Rattle.ring.specs.Lists.{joined}
+use Rattle.ring.specs.Lists.{joined, fill}
 use Rattle.ring.specs.Boards.{Ring, ringIn}
 use Rattle.ring.specs.Plan.{level, offset, rounds, finishOf, moves, tight, plan}
-use Rattle.ring.proofs.Fill.{fill-length}
 use Rattle.planner.specs.declared.Planned.{Planned}
 use Rattle.planner.specs.declared.Planned.the-variants.{Plan, Refused}
 use Rattle.planner.specs.declared.sums.Outline.{Outline}
 use Rattle.planner.specs.PlanBytes.{headBytes, recordsOf, planBytes, planLength}
 use Rattle.planner.specs.Answer.{answerFor}
 use Rattle.planner.specs.Outline.{carriesIn, outlineOf, Lent}
-use Rattle.planner.specs.Links.{pieceBy, Linked}
+use Rattle.planner.specs.Links.{pieceBy, Linked, linksAfter}
 use Rattle.planner.proofs.Bytes.{head-long}
 use Rattle.planner.proofs.Grow.{past-head}
 use Rattle.planner.proofs.SumSame.{items-are}
-use Rattle.planner.proofs.SumOutline.{level-at}
+use Rattle.planner.proofs.SumOutline.{level-at, levels-long}
 use Rattle.planner.proofs.Whole.{links-are, pieces-are}
 
 -- an answer that is no refusal passed both tests
@@ -52,34 +51,35 @@ module _ (kind n : ℕ) (loads : List ℕ) (surpluses : List ℤ) (costs : List 
   answer-is room t =
       pick (ltb 4294967295 (is t .finish .0)) (Refused 12 0) (pick (ltb room (15 + 6 * is t .moves)) (Refused 13 0) (Plan (is t .finish .0) (is t .moves) (is t .tight)))
 
-  level-is : (i : ℕ) → i < n → getD (outlineOf (ringIn kind n loads surpluses costs) .levels) i 0 ≡ level (ringIn kind n loads surpluses costs) i
-  level-is = level-at (ringIn kind n loads surpluses costs) (lent .accepted) _ refl
+  -- and with the levels, in a list that had room for them
+  module _ (was levels : List ℕ) (room : n ≤ length was) (put : levels ≡ fill (level (ringIn kind n loads surpluses costs)) n was) where
+    level-is : (i : ℕ) → i < n → getD levels i 0 ≡ level (ringIn kind n loads surpluses costs) i
+    level-is = level-at (ringIn kind n loads surpluses costs) (lent .accepted) was levels room put
 
-  -- the numbers are those that the links are written from
-  pub linked : finishOf (ringIn kind n loads surpluses costs) < 4294967296 → Linked kind n loads costs (o .levels) (o .offset) (o .rounds)
-  linked soon =
-      let r = ringIn kind n loads surpluses costs in
-      let long = fill-length (level r) (replicate 128 0) 0 n in
-      subst (λ (p : Outline). Linked kind n loads costs (p .levels) (p .offset) (p .rounds)) (sym is)
-      (links-are kind n loads surpluses costs (outlineOf r .levels) level-is (lent .accepted) soon (lent .loads-long) (lent .costs-long) (omega (arith, lent .accepted .boards)))
+    -- the numbers are those that the links are written from
+    pub linked : finishOf (ringIn kind n loads surpluses costs) < 4294967296 → Linked kind n loads costs levels (o .offset) (o .rounds)
+    linked soon =
+        let r = ringIn kind n loads surpluses costs in
+        subst (λ (p : Outline). Linked kind n loads costs levels (p .offset) (p .rounds)) (sym is)
+        (links-are kind n loads surpluses costs levels level-is (lent .accepted) soon (lent .loads-long) (lent .costs-long) (levels-long r (lent .accepted) was levels room put))
 
-  items : sum (carriesIn (o .levels) (o .offset)) n ≡ moves (ringIn kind n loads surpluses costs)
-  items =
-      let r = ringIn kind n loads surpluses costs in
-      (λ t. sum (carriesIn (is t .levels) (is t .offset)) n) ∙ items-are r (omega (arith, lent .accepted .boards)) (outlineOf r .levels) level-is
+    items : sum (carriesIn levels (o .offset)) n ≡ moves (ringIn kind n loads surpluses costs)
+    items =
+        let r = ringIn kind n loads surpluses costs in
+        (λ t. sum (carriesIn levels (is t .offset)) n) ∙ items-are r (omega (arith, lent .accepted .boards)) levels level-is
 
-  pub room-for : (room : ℕ) → planLength (ringIn kind n loads surpluses costs) ≤ room → 15 + 6 * sum (carriesIn (o .levels) (o .offset)) n ≤ room
-  room-for room h = omega (arith, items)
+    pub room-for : (bytes : ℕ) → planLength (ringIn kind n loads surpluses costs) ≤ bytes → 15 + 6 * sum (carriesIn levels (o .offset)) n ≤ bytes
+    room-for bytes h = omega (arith, items)
 
-  -- the head and the links together are the plan
-  pub laid-out : (f m : ℕ) (xs ys zs : List ℕ) → f ≡ finishOf (ringIn kind n loads surpluses costs) → m ≡ moves (ringIn kind n loads surpluses costs) → ys ≡ headBytes kind n f m ++ drop 15 xs
-      → zs ≡ (take 15 ys ++ joined (λ i. pieceBy kind n loads costs (getD (o .levels) i 0) (o .offset) (o .rounds) i) n) ++ drop (15 + 6 * sum (carriesIn (o .levels) (o .offset)) n) ys
-      → zs ≡ planBytes (ringIn kind n loads surpluses costs) ++ drop (planLength (ringIn kind n loads surpluses costs)) xs
-  laid-out f m xs ys zs ef em head wrote =
-      let r = ringIn kind n loads surpluses costs in
-      let pieces : joined (λ i. pieceBy kind n loads costs (getD (o .levels) i 0) (o .offset) (o .rounds) i) n ≡ recordsOf (plan r) =
-      (λ t. joined (λ i. pieceBy kind n loads costs (getD (is t .levels) i 0) (is t .offset) (is t .rounds) i) n) ∙ pieces-are kind n loads surpluses costs (outlineOf r .levels) level-is in
-      wrote
-      ∙ (λ t. (take 15 ys ++ pieces t) ++ drop (15 + 6 * items t) ys)
-      ∙ past-head (headBytes kind n f m) ys xs (recordsOf (plan r)) 15 (6 * moves r) (head-long kind n f m) head
-      ∙ (λ t. (headBytes kind n (ef t) (em t) ++ recordsOf (plan r)) ++ drop (15 + 6 * moves r) xs)
+    -- the head and the links together are the plan
+    pub laid-out : (f m : ℕ) (xs ys zs : List ℕ) → f ≡ finishOf (ringIn kind n loads surpluses costs) → m ≡ moves (ringIn kind n loads surpluses costs) → ys ≡ headBytes kind n f m ++ drop 15 xs
+        → zs ≡ linksAfter kind n loads costs levels (o .offset) (o .rounds) ys
+        → zs ≡ planBytes (ringIn kind n loads surpluses costs) ++ drop (planLength (ringIn kind n loads surpluses costs)) xs
+    laid-out f m xs ys zs ef em head wrote =
+        let r = ringIn kind n loads surpluses costs in
+        let pieces : joined (λ i. pieceBy kind n loads costs (getD levels i 0) (o .offset) (o .rounds) i) n ≡ recordsOf (plan r) =
+        (λ t. joined (λ i. pieceBy kind n loads costs (getD levels i 0) (is t .offset) (is t .rounds) i) n) ∙ pieces-are kind n loads surpluses costs levels level-is in
+        wrote
+        ∙ (λ t. (take 15 ys ++ pieces t) ++ drop (15 + 6 * items t) ys)
+        ∙ past-head (headBytes kind n f m) ys xs (recordsOf (plan r)) 15 (6 * moves r) (head-long kind n f m) head
+        ∙ (λ t. (headBytes kind n (ef t) (em t) ++ recordsOf (plan r)) ++ drop (15 + 6 * moves r) xs)

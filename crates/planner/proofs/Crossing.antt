@@ -1,19 +1,19 @@
 -- What each board sends and receives in a plan, from the levels of the links on its two sides. Assumes nothing.
 use mathlib.Core.Path.{_≡_, refl, sym, ap, _∙_}
 use mathlib.Core.Bool.{true}
+use mathlib.Core.List.{List}
 use Prim.Native.Nat.{ℕ, _+_, _*_, _-_, _≤_, _<_}
 use native.Mathlib.Omega.{arith}
 use lib.Dec.{eqb}
 use lib.ListN.{length, getD, replicate}
 use Rattle.ring.specs.Numbers.{both}
-use Rattle.ring.specs.Lists.{count}
+use Rattle.ring.specs.Lists.{count, fill}
 use Rattle.ring.specs.Boards.{Ring, Accepted, prev, mostLoad}
 use Rattle.ring.specs.Schedule.{Send, sender, receiver}
 use Rattle.ring.specs.Plan.{level, offset, ahead, behind, plan}
 use Rattle.ring.proofs.Sums.{sum-ones}
 use Rattle.ring.proofs.Totals.{each-all, count-with}
 use Rattle.ring.proofs.Neighbours.{prev-below}
-use Rattle.ring.proofs.Fill.{fill-length}
 use Rattle.ring.proofs.Planned.{sent-by, received-by}
 use Rattle.ring.proofs.Best.{timed}
 use Rattle.hop.proofs.Same.{fill-same}
@@ -35,25 +35,19 @@ module _ (r : Ring) (ok : Accepted r) (i : ℕ) (h : i < r .n) where
   pub receipts-are : ahead r (prev r i) + behind r i ≡ sendsBy r (receiver r) i
   receipts-are = omega (arith, all (receiver r), received-by r (timed r ok .back) (λ s. true) i h, sum-ones (ahead r (prev r i)), sum-ones (behind r i))
 
--- by the numbers of the ring's plan
-module _ (r : Ring) (ok : Accepted r) (o : Outline) (is : o ≡ outlineOf r) where
-  levels-are : o .levels ≡ outlineOf r .levels
-  levels-are = ap (λ (p : Outline). p .levels) is
-
+-- by the numbers of the ring's plan, and a list with its levels in the first places
+module _ (r : Ring) (ok : Accepted r) (o : Outline) (is : o ≡ outlineOf r) (was levels : List ℕ) (room : r .n ≤ length was) (put : levels ≡ fill (level r) (r .n) was) where
   offset-is : o .offset ≡ offset r
   offset-is = ap (λ (p : Outline). p .offset) is
 
-  pub levels-long : r .n ≤ length (o .levels)
-  levels-long = rw is (omega (arith, fill-length (level r) (replicate 128 0) 0 (r .n), ok .boards))
+  pub few : (i : ℕ) → i < r .n → carriesIn levels (o .offset) i ≤ 128 * mostLoad
+  few i h = rw offset-is (carries-few r ok was levels room put i h)
 
-  pub few : (i : ℕ) → i < r .n → carriesIn (o .levels) (o .offset) i ≤ 128 * mostLoad
-  few i h = rw offset-is (carries-few r ok (o .levels) levels-are i h)
-
-  pub traffic-is : crossings (r .n) (o .levels) (o .offset) (r .n) ≡ trafficIn r
+  pub traffic-is : crossings (r .n) levels (o .offset) (r .n) ≡ trafficIn r
   unfolding ahead behind
   traffic-is =
-      let here = level-at r ok (o .levels) levels-are in
-      let before : (i : ℕ) → i < r .n → getD (o .levels) (prev r i) 0 ≡ level r (prev r i) = λ i h. here (prev r i) (prev-below r i h) in
+      let here = level-at r ok was levels room put in
+      let before : (i : ℕ) → i < r .n → getD levels (prev r i) 0 ≡ level r (prev r i) = λ i h. here (prev r i) (prev-below r i h) in
       let sends =
       fill-same {A = ℕ} _ _ (r .n) (replicate 128 0)
       (record { at = λ i h. (λ t. (here i h t - offset-is t) + (offset-is t - before i h t)) ∙ sends-are r ok i h })

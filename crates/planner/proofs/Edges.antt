@@ -37,7 +37,7 @@ module _ {from first step : List ℕ} {m count : ℕ} (even : Even from first st
   edge-last = rw (le-ltb m m (omega arith))
 
   pub edge-first : edgeOf from m count 0 ≡ 0
-  edge-first = edge-from 0 (even .cover .some .0) ∙ even .cover .origin
+  edge-first = edge-from 0 (even .cover .some) ∙ even .cover .origin
 
   -- run e begins at its first send, ends no sooner, and within the link's sends; it owns those between,
   -- and begins soon where there is one

@@ -36,13 +36,13 @@ module _ (link level offset rounds cost : ℕ) (xs : List ℕ) where
 
 -- runs that have a link's starts are even, and their records are the link's
 module _ (from first step : List ℕ) (count m : ℕ) (start : ℕ → ℕ) (t : Runs (at from) (at first) (at step) count m start) where
-  pub runs-even : 128 ≤ length from → 128 ≤ length first → 128 ≤ length step → ((x : ℕ) → x < count → start x < 4294967296) → Even from first step m count
+  pub runs-even : m ≤ length from → m ≤ length first → m ≤ length step → ((x : ℕ) → x < count → start x < 4294967296) → Even from first step m count
   runs-even a b c soon =
       record {
         cover = t .cover;
-        froms = omega (arith, t .cover .some);
-        firsts = omega (arith, t .cover .some);
-        steps = omega (arith, t .cover .some);
+        froms = a;
+        firsts = b;
+        steps = c;
         soon = λ e x o. omega (arith, t .is e x o, soon x (o .2));
       }
 

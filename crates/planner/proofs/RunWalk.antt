@@ -29,12 +29,12 @@ apart c y x h = let q : x - y + y ≡ x = omega arith in omega (arith, ap (λ (z
 
 module _ (r : Ring) (ok : Accepted r) (i count : ℕ) (from first step : ℕ → ℕ) (m : ℕ) (s : Stack from first step count m) where
   -- after the last link, or once the items between are as many as the sends, the runs are the starts
-  pub settled : (d l past spent : ℕ) → Walk r i count from first step m d l past spent → (count ≤ past) ⊎ (d ≡ 0) → m ≤ 128
+  pub settled : (d l past spent : ℕ) → Walk r i count from first step m d l past spent → (count ≤ past) ⊎ (d ≡ 0)
       → Runs from first step count m (startBack r i)
   unfolding endBack
-  settled d l past spent w end few =
+  settled d l past spent w end =
       record {
-        cover = record { some = (s .some, few); origin = s .base .0; up = λ e h. s .up (suc e) h e (le-refl (suc e)); within = λ e h. omega (arith, s .within e h) };
+        cover = record { some = s .some; origin = s .base .0; up = λ e h. s .up (suc e) h e (le-refl (suc e)); within = λ e h. omega (arith, s .within e h) };
         is =
             λ e x h.
             omega (arith, w .shows .is e x h, starts end x (h .2), apart (step e) (from e) x (h .1));
@@ -126,6 +126,17 @@ module _ (r : Ring) (ok : Accepted r) (i count : ℕ) (from first step : ℕ →
                 (λ x b n. omega (arith, level h x n, mul-le-mul-right {m = step' (m' - 1)} {n = r .cost l} (x - past) (omega (arith, a .pace))))
           ]
 
+-- a send starts when the one before it ends, and not before the item that it waits for is there
+module _ (r : Ring) (ok : Accepted r) (i : ℕ) (h : i < r .n) where
+  start-is : (d l : ℕ) → r .n ≡ suc d → l ≡ prev r i → (x : ℕ) → startBack r i x ≡ max (r .cost i * x) (endBack r d l (suc x - r .load i))
+  start-is d l e p x = rw p (omega (arith, ap (λ (f : ℕ). endBack r f i (suc x)) e, back-closed r ok d i x h))
+
+  -- the items that the board has of its own go at the link's own pace
+  pub own-pace : (x : ℕ) → x < r .load i → startBack r i x ≡ r .cost i * x
+  own-pace x b =
+      let q : suc x - r .load i ≡ 0 = omega arith in
+      omega (arith, start-is (r .n - 1) (prev r i) (omega arith) refl x, ap (endBack r (r .n - 1) (prev r i)) q, back-zero r ok (r .n - 1) (prev r i))
+
 -- the first link's own line
 module _ (from first step : ℕ → ℕ) (f : from 0 ≡ 0) (v : first 0 ≡ 0) (count : ℕ) where
   pub one-stack : Stack from first step count 1
@@ -161,12 +172,6 @@ module _ (from first step : ℕ → ℕ) (f : from 0 ≡ 0) (v : first 0 ≡ 0) 
               λ x b k.
               let z : r .cost i * (suc x - r .load i) ≤ r .cost i * x = mul-le-mul-left (r .cost i) (omega (arith, ok .loads i h)) in
               rw t (omega arith);
-          done =
-              λ x b k.
-              let q : suc x - r .load i ≡ 0 = omega arith in
-              omega (arith, start x, ap (endBack r d l) q, back-zero r ok d l);
-          left = λ x b k. omega (arith, start x);
+          done = λ x b k. own-pace r ok i h x k;
+          left = λ x b k. omega (arith, start-is r ok i h d l e p x);
         }
-      where
-        start : (x : ℕ) → startBack r i x ≡ max (r .cost i * x) (endBack r d l (suc x - r .load i))
-        start x = rw p (omega (arith, ap (λ (f : ℕ). endBack r f i (suc x)) e, back-closed r ok d i x h))

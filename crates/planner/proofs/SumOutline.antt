@@ -5,13 +5,13 @@ use Prim.Native.Nat.{ℕ, _+_, _*_, _-_, _/_, _≤_, _<_, max}
 use native.Mathlib.Omega.{arith}
 use lib.Dec.{eqb}
 use lib.IntN.{ℤ}
-use lib.ListN.{getD, replicate}
+use lib.ListN.{length, getD}
 use Rattle.ring.specs.declared.Ticks.{Ticks}
 use Rattle.ring.specs.Numbers.{pick, greatest}
 use Rattle.ring.specs.Lists.{fill}
 use Rattle.ring.specs.Boards.{Ring, Accepted, mostLoad}
 use Rattle.ring.specs.Plan.{level, low, high, offset, rounds, surplusSize, finishOf}
-use Rattle.ring.proofs.Fill.{fill-at}
+use Rattle.ring.proofs.Fill.{fill-at, fill-length}
 use Rattle.ring.proofs.Level.{low-le, le-high, spread}
 use Rattle.ring.proofs.Bounds.{items-most, carries-most}
 use Rattle.planner.specs.declared.sums.Span.{Span}
@@ -30,10 +30,13 @@ board-held l i h =
       after-is = l .after-is i h;
     }
 
--- a list of a ring's levels, and what the steps make of it
-module _ (r : Ring) (ok : Accepted r) (xs : List ℕ) (levels : xs ≡ fill (level r) (r .n) (replicate 128 0)) where
+-- a list with a ring's levels in its first places, and what the steps make of it
+module _ (r : Ring) (ok : Accepted r) (was xs : List ℕ) (room : r .n ≤ length was) (levels : xs ≡ fill (level r) (r .n) was) where
   pub level-at : (i : ℕ) → i < r .n → getD xs i 0 ≡ level r i
-  level-at i h = rw levels (fill-at (level r) (replicate 128 0) 0 (r .n) i h (omega arith))
+  level-at i h = rw levels (fill-at (level r) was 0 (r .n) i h room)
+
+  pub levels-long : r .n ≤ length xs
+  levels-long = rw levels (omega (arith, fill-length (level r) was 0 (r .n)))
 
   pub carries-few : (i : ℕ) → i < r .n → carriesIn xs (offset r) i ≤ 128 * mostLoad
   carries-few i h = omega (arith, carries-is r (omega arith) xs level-at i h, carries-most r ok i h, items-most r ok)
@@ -60,9 +63,9 @@ module _ (r : Ring) (ok : Accepted r) (xs : List ℕ) (levels : xs ≡ fill (lev
 
         pub whole : (costs : List ℕ) → ((i : ℕ) → i < r .n → getD costs i 0 ≡ r .cost i) → (u : Tally) → u ≡ tallyOf (r .n) xs o costs
             → (f : Ticks) → f .0 ≡ pick (eqb (r .kind) 3) (turns * r .cost 0) (u .slowest .0)
-            → _≡_ {A = Outline} (record { levels = xs; offset = o; rounds = turns; moves = u .moves; tight = u .tight; finish = f }) (outlineOf r)
+            → _≡_ {A = Outline} (record { offset = o; rounds = turns; moves = u .moves; tight = u .tight; finish = f }) (outlineOf r)
         unfolding finishOf
         whole costs cost u tally f finish =
             let v = tally ∙ ap (λ (x : ℕ). tallyOf (r .n) xs x costs) offset-is ∙ tally-is r (omega arith) xs level-at costs cost in
             let e = finish ∙ (λ t. pick (eqb (r .kind) 3) (rounds-is t * r .cost 0) (v t .slowest .0)) in
-            λ t. record { levels = levels t; offset = offset-is t; rounds = rounds-is t; moves = v t .moves; tight = v t .tight; finish = record { 0 = e t } }
+            λ t. record { offset = offset-is t; rounds = rounds-is t; moves = v t .moves; tight = v t .tight; finish = record { 0 = e t } }

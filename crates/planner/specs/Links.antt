@@ -1,14 +1,15 @@
 -- Inner: cited by the contracts of the planner's inner functions only. What the planner promises is in Answer, Traffic and PlanBytes.
 -- The records of one link, and of all links, from the numbers of a plan: its levels, offset and rounds.
 use mathlib.Core.Path.{_≡_}
-use mathlib.Core.List.{List}
+use mathlib.Core.List.{List, _++_}
 use Prim.Native.Nat.{ℕ, _+_, _*_, _-_, _≤_, _<_}
 use lib.Dec.{eqb, ltb}
-use lib.ListN.{length, getD}
-use Rattle.ring.specs.Numbers.{pick}
+use lib.ListN.{length, getD, take, drop}
+use Rattle.ring.specs.Numbers.{pick, sum}
+use Rattle.ring.specs.Lists.{joined}
 use Rattle.ring.specs.Boards.{Accepted}
 use Rattle.planner.specs.PlanBytes.{linkBytes}
-use Rattle.planner.specs.Outline.{between}
+use Rattle.planner.specs.Outline.{between, carriesIn}
 use Rattle.planner.specs.Runs.{oneWay, startBack}
 
 -- back where the level is below the offset
@@ -41,3 +42,9 @@ pub record Linked (kind n : ℕ) (loads costs levels : List ℕ) (offset rounds 
   pub costs-long : n ≤ length costs
   pub levels-long : n ≤ length levels
   pub timely : (i : ℕ) → i < n → Timely kind n loads costs (getD levels i 0) offset rounds i
+
+-- what stands in a buffer after the links' records were put after its first 15 bytes
+abbrev pub linksAfter : ℕ → ℕ → List ℕ → List ℕ → List ℕ → ℕ → ℕ → List ℕ → List ℕ
+linksAfter kind n loads costs levels offset rounds xs =
+    (take 15 xs ++ joined (λ i. pieceBy kind n loads costs (getD levels i 0) offset rounds i) n)
+    ++ drop (15 + 6 * sum (carriesIn levels offset) n) xs

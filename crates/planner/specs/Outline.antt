@@ -4,11 +4,10 @@ use mathlib.Core.Path.{_≡_}
 use mathlib.Core.List.{List, []}
 use Prim.Native.Nat.{ℕ, _+_, _*_, _-_, _≤_, _<_}
 use lib.IntN.{ℤ, pos, _-ℤ_}
-use lib.ListN.{length, getD, replicate}
+use lib.ListN.{length, getD}
 use Rattle.ring.specs.Numbers.{sum, least, greatest, peak}
-use Rattle.ring.specs.Lists.{fill}
 use Rattle.ring.specs.Boards.{Ring, Accepted, ringIn, prev, mostLoad}
-use Rattle.ring.specs.Plan.{level, offset, rounds, moves, tight, finishOf}
+use Rattle.ring.specs.Plan.{offset, rounds, moves, tight, finishOf}
 use Rattle.planner.specs.declared.Traffic.{Traffic}
 use Rattle.planner.specs.declared.sums.Span.{Span}
 use Rattle.planner.specs.declared.sums.Tally.{Tally}
@@ -67,11 +66,10 @@ crossings n levels offset k =
       receives = forBoards (λ i. ahead (before i) + behind i) k;
     }
 
--- the numbers of a ring's plan
+-- the numbers of a ring's plan, beside its levels
 abbrev pub outlineOf : Ring → Outline
 outlineOf r =
     record {
-      levels = fill (level r) (r .n) (replicate 128 0);
       offset = offset r;
       rounds = rounds r;
       moves = moves r;

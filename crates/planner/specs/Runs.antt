@@ -25,7 +25,7 @@ In from count m e x = (e < m) × (from e ≤ x) × (x < count) × (suc e < m →
 
 -- each send is one of the m runs
 pub record Cover (from : ℕ → ℕ) (count m : ℕ) : Type 0 where
-  pub some : (1 ≤ m) × (m ≤ 128)
+  pub some : 1 ≤ m
   pub origin : from 0 ≡ 0
   pub up : (e : ℕ) → suc e < m → from e < from (suc e)
   pub within : (e : ℕ) → e < m → from e ≤ count

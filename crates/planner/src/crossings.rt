@@ -2,10 +2,10 @@
 ghost use mathlib.Core.Path.{_≡_};
 ghost use Prim.Native.Nat.{ℕ, _+_, _*_, _-_, _<_, _≤_};
 ghost use lib.ListN.{length};
-ghost use Rattle.ring.specs.Boards.{mostLoad};
+ghost use Rattle.ring.specs.Boards.{ringIn, mostLoad};
 ghost use Rattle.hop.specs.Read.{jobOf};
-ghost use Rattle.planner.specs.Outline.{carriesIn, crossings};
-ghost use Rattle.planner.specs.Traffic.{trafficOf};
+ghost use Rattle.planner.specs.Outline.{Lent, carriesIn, crossings};
+ghost use Rattle.planner.specs.Traffic.{trafficIn, trafficOf};
 use crate::Traffic;
 use crate::runs::link_before;
 use crate::sums::outline_of;
@@ -33,6 +33,22 @@ fn by_board(n: usize, levels: &[u32], offset: u32) -> Traffic
     Traffic { sends, receives }
 }
 
+// The traffic of an accepted ring.
+fn traffic_ring<'a>(
+    kind: u8,
+    n: usize,
+    loads: &'a [u16],
+    surpluses: &'a [i16],
+    costs: &'a [u16],
+) -> Traffic
+    requires { ⌜ Lent kind n (now loads) (now surpluses) (now costs) ⌝ }
+    ensures { λ r. ⌜ r ≡ trafficIn (ringIn kind n (now (loads .entry)) (now (surpluses .entry)) (now (costs .entry))) ⌝ }
+{
+    let mut levels = [0u32; 128];
+    let o = outline_of(kind, n, loads, surpluses, costs, &mut levels);
+    by_board(n, &levels, o.offset)
+}
+
 // The sends and the receipts of each board in the plan of a job. A refused job has none.
 pub fn traffic_of(s: &[u8]) -> Traffic
     ensures { λ r. ⌜ r ≡ trafficOf (jobOf (now (s .entry))) ⌝ }
@@ -45,10 +61,5 @@ pub fn traffic_of(s: &[u8]) -> Traffic
             receives: [0; 128],
         };
     };
-    let loads = job.loads;
-    let surpluses = job.surpluses;
-    let costs = job.costs;
-    let o = outline_of(kind, n as usize, &loads, &surpluses, &costs);
-    let levels = o.levels;
-    by_board(n as usize, &levels, o.offset)
+    traffic_ring(kind, n as usize, &job.loads, &job.surpluses, &job.costs)
 }

@@ -67,26 +67,26 @@ fn weighed(finish: Ticks, moves: u32, tight: u8, room: usize) -> Planned
 }
 
 // The plan of an accepted ring, whose numbers are lent, into a lent buffer.
-fn plan_ring(
+fn plan_ring<'a>(
     kind: u8,
     n: u8,
-    loads: &[u16],
-    surpluses: &[i16],
-    costs: &[u16],
+    loads: &'a [u16],
+    surpluses: &'a [i16],
+    costs: &'a [u16],
     buf: &mut [u8],
 ) -> Planned
     requires { ⌜ Lent kind n (now loads) (now surpluses) (now costs) ⌝ }
     ensures { λ r. ⌜ r ≡ answerFor (ringIn kind n (now (loads .entry)) (now (surpluses .entry)) (now (costs .entry))) (length (now (buf .entry))) ⌝ }
     ensures { λ r. ⌜ now (buf .exit) ≡ memoryFor (ringIn kind n (now (loads .entry)) (now (surpluses .entry)) (now (costs .entry))) r (now (buf .entry)) ⌝ }
 {
-    let o = sums::outline_of(kind, n as usize, loads, surpluses, costs);
+    let mut levels = [0u32; 128];
+    let o = sums::outline_of(kind, n as usize, loads, surpluses, costs, &mut levels);
     let time = o.finish;
     let answer = weighed(time, o.moves, o.tight, buf.len());
     let Planned::Plan { finish, moves, .. } = answer else {
         return answer;
     };
     records::put_head(buf, kind, n, finish, moves);
-    let levels = o.levels;
     links::put_links(
         buf,
         kind,
@@ -100,6 +100,24 @@ fn plan_ring(
     answer
 }
 
+// What the plan of an accepted ring is answered with.
+fn weigh_ring<'a>(
+    kind: u8,
+    n: u8,
+    loads: &'a [u16],
+    surpluses: &'a [i16],
+    costs: &'a [u16],
+    room: usize,
+) -> Planned
+    requires { ⌜ Lent kind n (now loads) (now surpluses) (now costs) ⌝ }
+    ensures { λ r. ⌜ r ≡ answerFor (ringIn kind n (now (loads .entry)) (now (surpluses .entry)) (now (costs .entry))) room ⌝ }
+{
+    let mut levels = [0u32; 128];
+    let o = sums::outline_of(kind, n as usize, loads, surpluses, costs, &mut levels);
+    let time = o.finish;
+    weighed(time, o.moves, o.tight, room)
+}
+
 // What `plan` answers with so many bytes of room. Nothing is written.
 pub fn weigh(s: &[u8], room: usize) -> Planned
     ensures { λ r. ⌜ r ≡ planAnswer (jobOf (now (s .entry))) room ⌝ }
@@ -109,12 +127,7 @@ pub fn weigh(s: &[u8], room: usize) -> Planned
     let Check::Ring { kind, n } = check else {
         return stopped(check);
     };
-    let loads = job.loads;
-    let surpluses = job.surpluses;
-    let costs = job.costs;
-    let o = sums::outline_of(kind, n as usize, &loads, &surpluses, &costs);
-    let time = o.finish;
-    weighed(time, o.moves, o.tight, room)
+    weigh_ring(kind, n, &job.loads, &job.surpluses, &job.costs, room)
 }
 
 // The plan of a job into a lent buffer: its numbers, or the first refusal of 1 to 13, which leaves the buffer as it was.
@@ -127,8 +140,5 @@ pub fn plan(s: &[u8], buf: &mut [u8]) -> Planned
     let Check::Ring { kind, n } = check else {
         return stopped(check);
     };
-    let loads = job.loads;
-    let surpluses = job.surpluses;
-    let costs = job.costs;
-    plan_ring(kind, n, &loads, &surpluses, &costs, buf)
+    plan_ring(kind, n, &job.loads, &job.surpluses, &job.costs, buf)
 }

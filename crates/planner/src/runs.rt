@@ -102,7 +102,8 @@ pub(crate) fn runs(
 ) -> usize
     requires { ⌜ Accepted (oneWay n (now loads) (now costs)) ⌝ }
     requires { ⌜ (i < n) × (n ≤ length (now loads)) × (n ≤ length (now costs)) ⌝ }
-    requires { ⌜ (128 ≤ length (now from)) × (128 ≤ length (now first)) × (128 ≤ length (now step)) ⌝ }
+    requires { ⌜ (n ≤ length (now from)) × (n ≤ length (now first)) × (n ≤ length (now step)) ⌝ }
+    ensures { λ r. ⌜ r ≤ n ⌝ }
     ensures { λ r. ⌜ Runs (at (now (from .exit))) (at (now (first .exit))) (at (now (step .exit))) count r (startBack (oneWay n (now (loads .entry)) (now (costs .entry))) i) ⌝ }
 {
     put(from, first, step, 0, 0, costs[i], 0);

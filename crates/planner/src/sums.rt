@@ -1,7 +1,7 @@
 ghost use mathlib.Core.Path.{_≡_};
 ghost use Prim.Native.Nat.{ℕ, _+_, _*_, _-_, _/_, _<_, _≤_, max, min};
 ghost use lib.Dec.{eqb, ltb};
-ghost use lib.ListN.{length, getD, replicate};
+ghost use lib.ListN.{length, getD};
 ghost use Rattle.ring.specs.Numbers.{pick, sum, greatest};
 ghost use Rattle.ring.specs.Lists.{fill};
 ghost use Rattle.ring.specs.Boards.{ringIn, Within, mostLoad};
@@ -10,10 +10,9 @@ ghost use Rattle.planner.specs.Outline.{BoardHeld, Lent, boardsIn, betwe
 use ring::Items;
 use ring::Ticks;
 
-// The numbers of a plan. Link i carries the difference of its level and the offset: forward where the level is more, back where
-// it is less.
+// The numbers of a plan, beside its links' levels. Link i carries the difference of its level and the offset: forward where the level is
+// more, back where it is less.
 pub(crate) struct Outline {
-    pub(crate) levels: [u32; 128],
     pub(crate) offset: u32,
     pub(crate) rounds: u32,
     pub(crate) moves: u32,
@@ -88,19 +87,17 @@ fn total(n: usize, loads: &[u16]) -> u32
     sum
 }
 
-// The level after each of n links: the loads up to it, and what the boards past it are to end with.
-fn levels(n: usize, loads: &[u16], surpluses: &[i16]) -> [u32; 128]
-    requires { ⌜ (Within 2 128 n) × ((i : ℕ) → i < n → BoardHeld (now loads) (now surpluses) i) ⌝ }
+// The level after each of n links, in a lent list: the loads up to it, and what the boards past it are to end with.
+fn put_levels(n: usize, loads: &[u16], surpluses: &[i16], levels: &mut [u32])
+    requires { ⌜ (Within 2 128 n) × (n ≤ length (now levels)) × ((i : ℕ) → i < n → BoardHeld (now loads) (now surpluses) i) ⌝ }
     requires { ⌜ sum (boardsIn n (now loads) (now surpluses) .load) n ≡ sum (boardsIn n (now loads) (now surpluses) .after) n ⌝ }
-    ensures { λ r. ⌜ r ≡ fill (level (boardsIn n (now (loads .entry)) (now (surpluses .entry)))) n (replicate 128 0) ⌝ }
+    ensures { λ _. ⌜ now (levels .exit) ≡ fill (level (boardsIn n (now (loads .entry)) (now (surpluses .entry)))) n (now (levels .entry)) ⌝ }
 {
-    let mut levels = [0u32; 128];
     let mut level = total(n, loads);
     for i in 0..n {
         level = level + (loads[i] as u32) - (after(loads, surpluses, i) as u32);
         levels[i] = level;
     }
-    levels
 }
 
 // The least and the greatest of n levels.
@@ -183,25 +180,26 @@ fn finish(kind: u8, cost: u16, rounds: u32, slowest: Ticks) -> Ticks
     }
 }
 
-// The numbers of the plan of a ring.
+// The numbers of the plan of a ring, and its links' levels in a lent list.
 pub(crate) fn outline_of(
     kind: u8,
     n: usize,
     loads: &[u16],
     surpluses: &[i16],
     costs: &[u16],
+    levels: &mut [u32],
 ) -> Outline
-    requires { ⌜ Lent kind n (now loads) (now surpluses) (now costs) ⌝ }
+    requires { ⌜ Lent kind n (now loads) (now surpluses) (now costs) × (n ≤ length (now levels)) ⌝ }
     ensures { λ r. ⌜ r ≡ outlineOf (ringIn kind n (now (loads .entry)) (now (surpluses .entry)) (now (costs .entry))) ⌝ }
+    ensures { λ _. ⌜ now (levels .exit) ≡ fill (level (ringIn kind n (now (loads .entry)) (now (surpluses .entry)) (now (costs .entry)))) n (now (levels .entry)) ⌝ }
 {
-    let levels = levels(n, loads, surpluses);
-    let span = span_of(n, &levels);
+    put_levels(n, loads, surpluses, levels);
+    let span = span_of(n, levels);
     let offset = offset(kind, span.low, span.high);
     let rounds = greater(largest(n, loads, surpluses), (span.high - span.low + 1) / 2);
-    let tally = tally_of(n, &levels, offset, costs);
+    let tally = tally_of(n, levels, offset, costs);
     let slowest = tally.slowest;
     Outline {
-        levels,
         offset,
         rounds,
         moves: tally.moves,

@@ -28,18 +28,9 @@ returns c =
       unread-memory (a .s .now) (r .read .result) (r .read .ensures) (told .0 .0) (told .0 .1 .0) (told .1) (a .buf .now),
     )
 
-slice-aggregate-plan-ring : tie.Need-slice-aggregate-plan-ring
-slice-aggregate-plan-ring c = search needs
-
-slice-aggregate-plan-ring-2 : tie.Need-slice-aggregate-plan-ring-2
-slice-aggregate-plan-ring-2 c = search needs
-
-slice-aggregate-plan-ring-3 : tie.Need-slice-aggregate-plan-ring-3
-slice-aggregate-plan-ring-3 c = search needs
-
 plan-ring-requires : tie.Need-plan-ring-requires
 plan-ring-requires c κs =
-    let k = c .before .before .before .before .before .before .before .before in
+    let k = c .before .before .before .before .before .before .before .before .before in
     let r = k .before .before in
     let told = k .check .given in
     lent (r .before .before .before .args .s .now) (r .read .result) (r .read .ensures) (told .0 .0) (told .0 .1 .0) (told .1)
@@ -50,7 +41,7 @@ same-length c = search needs
 returns-2 : tie.Need-returns-2
 returns-2 c =
     let p = c .before .before in
-    let k = p .before .before .before .before .before .before .before .before .before in
+    let k = p .before .before .before .before .before .before .before .before .before .before in
     let r = k .before .before in
     let a = r .before .before .before .args in
     let told = k .check .given in
@@ -68,9 +59,6 @@ plan-spec =
     enum-told
     stopped-requires
     returns
-    slice-aggregate-plan-ring
-    slice-aggregate-plan-ring-2
-    slice-aggregate-plan-ring-3
     plan-ring-requires
     same-length
     returns-2)

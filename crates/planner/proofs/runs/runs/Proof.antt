@@ -44,9 +44,9 @@ known : (l : tie.At-loop Inv-loop μ-loop)
     × (l .loop .m ≤ l .loop .k)
     × (l .loop .past ≤ 4095 * l .loop .k)
     × (l .loop .spent ≤ 8000 * l .loop .k)
-    × (128 ≤ length (l .loop .from))
-    × (128 ≤ length (l .loop .first))
-    × (128 ≤ length (l .loop .step))
+    × (a .n ≤ length (l .loop .from))
+    × (a .n ≤ length (l .loop .first))
+    × (a .n ≤ length (l .loop .step))
 known l =
     let s = start l in
     let i = l .loop .inv in
@@ -131,10 +131,10 @@ ended l end =
     let a = s .args in
     let i = l .loop .inv in
     settled (oneWay (a .n) (a .loads .now) (a .costs .now)) (s .pre .0) (a .i) (a .count) (at (l .loop .from)) (at (l .loop .first)) (at (l .loop .step))
-    (l .loop .m) (i .8) (a .n - l .loop .k) (l .loop .l) (l .loop .past) (l .loop .spent) (i .9) end (omega (arith, known l))
+    (l .loop .m) (i .8) (a .n - l .loop .k) (l .loop .l) (l .loop .past) (l .loop .spent) (i .9) end
 
 returns : tie.Need-returns Inv-loop μ-loop
-returns c = ended (c .before .before) (inl (c .if1 .taken))
+returns c = (omega (arith, known (c .before .before)), ended (c .before .before) (inl (c .if1 .taken)))
 
 mul-cost : tie.Need-mul-cost Inv-loop μ-loop
 mul-cost c = search needs
@@ -221,7 +221,7 @@ same-length-6 : tie.Need-same-length-6 Inv-loop μ-loop
 same-length-6 c = search needs
 
 returns-2 : tie.Need-returns-2 Inv-loop μ-loop
-returns-2 c = ended (c .before) (inr (omega (arith, c .loop-test .left)))
+returns-2 c = (omega (arith, known (c .before)), ended (c .before) (inr (omega (arith, c .loop-test .left))))
 
 pub runs-spec : {M : Type 1} → statement M
 runs-spec =

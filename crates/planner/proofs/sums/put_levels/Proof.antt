@@ -1,41 +1,45 @@
--- `sums::levels`: each level is the one before it, and the board's load, less what the board is to end with. Assumes nothing.
+-- `sums::put_levels`: each level is the one before it, and the board's load, less what the board is to end with. Assumes nothing.
 use mathlib.Core.Path.{_≡_, refl, sym, ap, _∙_}
 use Prim.Native.Nat.{ℕ, _+_, _-_, _≤_}
 use native.Mathlib.Omega.{arith}
 use native.Mathlib.Numerals.{add-one}
 use denote.Ref.{now}
-use lib.ListN.{getD, replicate, set}
+use lib.ListN.{length, getD, set}
 use Rattle.ring.specs.Lists.{fill}
 use Rattle.ring.specs.Plan.{level}
+use Rattle.ring.proofs.Fill.{fill-length}
 use Rattle.planner.specs.Outline.{boardsIn, BoardHeld}
 use Rattle.planner.proofs.SumLevels.{before, before-first, before-next, Turn, turn}
 use borrow.Author.Needs.{needs}
-use Rattle.planner.proofs.sums.levels.Statement.{statement}
-use Rattle.planner.proofs.sums.levels.Tie as tie
+use Rattle.planner.proofs.sums.put_levels.Statement.{statement}
+use Rattle.planner.proofs.sums.put_levels.Tie as tie
 
 abbrev Inv-loop : tie.InvT-loop
 Inv-loop n loads surpluses levels₀ now₀ i₀ levels so-far i =
-    (i ≤ n) × (levels ≡ fill (level (boardsIn n loads surpluses)) i (replicate 128 0)) × (so-far ≡ before (boardsIn n loads surpluses) i)
+    (i ≤ n) × (levels ≡ fill (level (boardsIn n loads surpluses)) i levels₀) × (so-far ≡ before (boardsIn n loads surpluses) i)
 
 abbrev μ-loop : tie.MeasureT-loop
 μ-loop n loads surpluses levels₀ now₀ i₀ levels so-far i = n - i
 
 -- board i, and what it makes of the level before it
-held : (c : tie.In-loop Inv-loop μ-loop) → let a = c .before .before .before .before .args in BoardHeld (now (a .loads)) (now (a .surpluses)) (c .before .loop .i)
-held c = c .before .before .before .before .pre .0 .1 (c .before .loop .i) (c .loop-test .taken)
+held : (c : tie.In-loop Inv-loop μ-loop) → let a = c .before .before .before .before .before .args in BoardHeld (now (a .loads)) (now (a .surpluses)) (c .before .loop .i)
+held c = c .before .before .before .before .before .pre .0 .2 (c .before .loop .i) (c .loop-test .taken)
 
-at : (c : tie.In-loop Inv-loop μ-loop) → let a = c .before .before .before .before .args in Turn (boardsIn (a .n) (now (a .loads)) (now (a .surpluses))) (c .before .loop .i) (c .before .loop .level)
+at : (c : tie.In-loop Inv-loop μ-loop) → let a = c .before .before .before .before .before .args in Turn (boardsIn (a .n) (now (a .loads)) (now (a .surpluses))) (c .before .loop .i) (c .before .loop .level)
 at c =
-    let s = c .before .before .before .before in
-    let each = s .pre .0 .1 in
+    let s = c .before .before .before .before .before in
+    let each = s .pre .0 .2 in
     rw (c .before .loop .inv .2) (turn (boardsIn (s .args .n) (now (s .args .loads)) (now (s .args .surpluses))) (omega arith) (λ k h. (each k h .load-most, each k h .after-most)) (c .before .loop .i) (c .loop-test .taken))
 
+long : (l : tie.At-loop Inv-loop μ-loop) → length (l .loop .levels) ≡ length (now (l .before .before .before .before .args .levels))
+long l = ap length (l .loop .inv .1) ∙ fill-length _ (now (l .before .before .before .before .args .levels)) 0 (l .loop .i)
+
 total-requires : tie.Need-total-requires Inv-loop μ-loop
-total-requires c κs = (omega arith, omega (arith, c .before .pre .0 .1 (c .before .args .n - 1) (omega arith) .load-here))
+total-requires c κs = let s = c .before .before in (omega arith, omega (arith, s .pre .0 .2 (s .args .n - 1) (omega arith) .load-here))
 
 loop-holds : tie.Need-loop-holds Inv-loop μ-loop
 unfolding fill
-loop-holds c = let s = c .before .before in (omega arith, refl, c .total .ensures ∙ before-first (boardsIn (s .args .n) (now (s .args .loads)) (now (s .args .surpluses))) (s .pre .1))
+loop-holds c = let s = c .before .before .before in (omega arith, refl, c .total .ensures ∙ before-first (boardsIn (s .args .n) (now (s .args .loads)) (now (s .args .surpluses))) (s .pre .1))
 
 mul-level : tie.Need-mul-level Inv-loop μ-loop
 mul-level c = search needs
@@ -61,8 +65,8 @@ sub-level c = omega (arith, c .after .ensures, at (c .before .before) .enough)
 mul-levels : tie.Need-mul-levels Inv-loop μ-loop
 mul-levels c = search needs
 
-array-write-levels : tie.Need-array-write-levels Inv-loop μ-loop
-array-write-levels c = search needs
+slice-write-levels : tie.Need-slice-write-levels Inv-loop μ-loop
+slice-write-levels c = let t = c .before .before in omega (arith, long (t .before), t .loop-test .taken, t .before .before .before .before .before .pre .0 .1)
 
 add-i : tie.Need-add-i Inv-loop μ-loop
 add-i c = search needs
@@ -75,7 +79,7 @@ unfolding fill
 loop-again c =
     let t = c .before .before in
     let l = t .before in
-    let s = l .before .before .before in
+    let s = l .before .before .before .before in
     let n = s .args .n in
     let loads = now (s .args .loads) in
     let surpluses = now (s .args .surpluses) in
@@ -85,15 +89,18 @@ loop-again c =
       e ∙ sym (before-next (boardsIn n loads surpluses) (l .loop .i)),
     )
 
+same-length : tie.Need-same-length Inv-loop μ-loop
+same-length c = long (c .before)
+
 returns : tie.Need-returns Inv-loop μ-loop
 returns c =
     let l = c .before in
-    let a = l .before .before .before .args in
+    let a = l .before .before .before .before .args in
     let e : l .loop .i ≡ a .n = omega arith in
-    l .loop .inv .1 ∙ ap (λ (k : ℕ). fill (level (boardsIn (a .n) (now (a .loads)) (now (a .surpluses)))) k (replicate 128 0)) e
+    l .loop .inv .1 ∙ ap (λ (k : ℕ). fill (level (boardsIn (a .n) (now (a .loads)) (now (a .surpluses)))) k (now (a .levels))) e
 
-pub levels-spec : {M : Type 1} → statement M
-levels-spec =
+pub put-levels-spec : {M : Type 1} → statement M
+put-levels-spec =
     tie.close
     (tie.spec
     Inv-loop
@@ -108,8 +115,9 @@ levels-spec =
     cast-level-2
     sub-level
     mul-levels
-    array-write-levels
+    slice-write-levels
     add-i
     loop-less
     loop-again
+    same-length
     returns)
