@@ -7,7 +7,7 @@
 #include <string.h>
 #include <time.h>
 
-enum { SAMPLES = 100, ROOM = 15 + 6 * 1000000 };
+enum { PLACES = 16, APART = 272, SAMPLES = 8, ROOM = 15 + 6 * 1000000 };
 
 typedef uint64_t planner(const uint8_t *, size_t, uint8_t *, size_t, uint64_t *);
 
@@ -59,18 +59,21 @@ static size_t half_to_half(int kind, int items, enum costs costs)
     return 7 + 6 * 128;
 }
 
-/* The processor time of one call of so many in a row, in nanoseconds. */
-static double timed(planner *plan, size_t length, uint8_t *buffer, size_t room, int calls)
+/* The processor time of one call of so many in a row, in nanoseconds, with the stack lower by so many bytes. */
+static double timed(planner *plan, size_t length, uint8_t *buffer, size_t room, int calls, int lower)
 {
+    volatile uint8_t unused[lower + 1];
     struct timespec began, ended;
     uint64_t values[3];
+    unused[0] = 0;
     clock_gettime(CLOCK_PROCESS_CPUTIME_ID, &began);
     for (int k = 0; k < calls; k++) plan(job, length, buffer, room, values);
     clock_gettime(CLOCK_PROCESS_CPUTIME_ID, &ended);
     return ((ended.tv_sec - began.tv_sec) * 1e9 + (ended.tv_nsec - began.tv_nsec)) / calls;
 }
 
-/* 1 where the two differ; else the least of several times of each is printed. */
+/* 1 where the two differ; else the times of both are printed: the least of several, in the mean over several places of the stack, since where
+   a short call's arrays lie in the cache lines changes its time by a fifth. */
 static int compare(const char *name, size_t length, int calls)
 {
     uint64_t mine[3], plain[3];
@@ -85,10 +88,14 @@ static int compare(const char *name, size_t length, int calls)
     }
     double sends = mine[1];
     size_t room = 15 + 6 * mine[1];
-    for (int s = 0; s < SAMPLES; s++) {
-        double a = timed(fallowroe_plan, length, ours, room, calls), b = timed(plain_plan, length, theirs, room, calls);
-        if (s == 0 || a < library) library = a;
-        if (s == 0 || b < c) c = b;
+    for (int p = 0; p < PLACES; p++) {
+        double least = 0, least_c = 0;
+        for (int s = 0; s < SAMPLES; s++) {
+            double a = timed(fallowroe_plan, length, ours, room, calls, p * APART), b = timed(plain_plan, length, theirs, room, calls, p * APART);
+            if (s == 0 || a < least) least = a;
+            if (s == 0 || b < least_c) least_c = b;
+        }
+        library += least / PLACES, c += least_c / PLACES;
     }
     printf("%-28s %9.0f %12.0f %12.0f %10.2f %8.2f %8.2f\n", name, sends, library, c, library / sends, c / sends, library / c);
     return 0;
