@@ -20,7 +20,8 @@ use Rattle.hop.specs.Refusals.{ringCheck}
 use Rattle.hop.specs.Read.{jobLength, loadAt, surplusAt, costAt, headOf, checkOf, holding, beside, jobOf}
 use Rattle.hop.specs.Write.{headBytes, boardBytes, jobBytes}
 use Rattle.hop.proofs.Pieces.{joined-long, joined-at}
-use Rattle.hop.proofs.Same.{Below, fill-same, check-same}
+use Rattle.ring.proofs.Fill.{Below, fill-same}
+use Rattle.hop.proofs.Same.{check-same}
 use Rattle.hop.proofs.Passed.{shape-ring, passed}
 use Rattle.hop.proofs.First.{goes}
 

@@ -9,14 +9,14 @@ use lib.ListN.{length, getD, replicate}
 use borrow.Author.Tests.{eqb-true}
 use Rattle.ring.specs.Boards.{Within}
 use Rattle.ring.specs.Bytes.{halfAt}
-use Rattle.ring.proofs.Fill.{fill-at, fill-length}
+use Rattle.ring.proofs.Fill.{Below, fill-at, fill-length}
 use Rattle.hop.specs.declared.Check.{Check}
 use Rattle.hop.specs.declared.Check.the-variants.{Ring, Refused}
 use Rattle.hop.specs.declared.Job.{Job}
 use Rattle.hop.specs.Refusals.{each, eachℤ, unlike, shapeOf, ringCheck}
 use Rattle.hop.specs.Read.{jobLength, loadAt, surplusAt, costAt, sizesOf, markOf, headOf, checkOf, bare, beside, jobOf}
 use Rattle.hop.proofs.First.{no, yes, stands, goes}
-use Rattle.hop.proofs.Same.{Below, check-same}
+use Rattle.hop.proofs.Same.{check-same}
 use Rattle.hop.proofs.Passed.{went-on, shaped, passed}
 
 module _ (s : List ℕ) where

@@ -21,7 +21,8 @@ use Rattle.hop.specs.Write.{headBytes, recordBytes, boardBytes, jobBytes
 use Rattle.hop.proofs.First.{goes}
 use Rattle.hop.proofs.Passed.{shape-ring}
 use Rattle.hop.proofs.Pieces.{joined-same}
-use Rattle.hop.proofs.Same.{Below, check-same}
+use Rattle.ring.proofs.Fill.{Below}
+use Rattle.hop.proofs.Same.{check-same}
 use Rattle.hop.proofs.Reading.{loads-are, surpluses-are, costs-are}
 use Rattle.hop.proofs.Accepted.{check-ring, head-ring, job-beside, header, arrays}
 use Rattle.hop.proofs.Listing.{listed, wrote}

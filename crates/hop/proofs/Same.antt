@@ -1,34 +1,20 @@
 -- Only the numbers of the boards below n are looked at. Assumes nothing.
 use mathlib.Core.Path.{_≡_, refl}
-use mathlib.Core.List.{List}
-use Prim.Native.Nat.{ℕ, zero, suc, _≤_, _<_}
+use Prim.Native.Nat.{ℕ, zero, suc, _≤_}
 use native.Mathlib.Omega.{arith}
 use lib.Dec.{eqb}
 use lib.IntN.{ℤ, natAbs, _+ℤ_}
-use lib.ListN.{set}
 use Rattle.ring.specs.Numbers.{pick, sumℤ}
-use Rattle.ring.specs.Lists.{fill}
 use Rattle.ring.specs.Limits.{boardOf, faultOf}
+use Rattle.ring.proofs.Fill.{Below, less}
 use Rattle.hop.specs.declared.Check.the-variants.{Ring, Refused}
 use Rattle.hop.specs.Refusals.{unlike, boardFault, costFault, balancedOf, ringCheck}
 use Rattle.hop.proofs.First.{faultless-same}
-
--- they agree below n
-pub record Below {A : Type 0} (f g : ℕ → A) (n : ℕ) : Type 0 where
-  pub at : (i : ℕ) → i < n → f i ≡ g i
-
-less : {A : Type 0} (f g : ℕ → A) (k : ℕ) → Below f g (suc k) → Below f g k
-less f g k b = record { at = λ i h. b .at i (omega arith) }
 
 sumℤ-same : (f g : ℕ → ℤ) (n : ℕ) → Below f g n → sumℤ f n ≡ sumℤ g n
 unfolding sumℤ
 sumℤ-same f g zero b = refl
 sumℤ-same f g (suc k) b = λ t. sumℤ-same f g k (less f g k b) t +ℤ b .at k (omega arith) t
-
-pub fill-same : {A : Type 0} (f g : ℕ → A) (n : ℕ) (xs : List A) → Below f g n → fill f n xs ≡ fill g n xs
-unfolding fill
-fill-same f g zero xs b = refl
-fill-same f g (suc k) xs b = λ t. set (fill-same f g k xs (less f g k b) t) k (b .at k (omega arith) t)
 
 module _ (kind n : ℕ) (some : 1 ≤ n) (l l' : ℕ → ℕ) (z z' : ℕ → ℤ) (c c' : ℕ → ℕ) (sl : Below l l' n) (sz : Below z z' n) (sc : Below c c' n) where
   pub check-same : ringCheck kind n l z c ≡ ringCheck kind n l' z' c'

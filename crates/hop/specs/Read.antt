@@ -1,5 +1,4 @@
 -- Document 01, "Bytes": what the bytes of a job say, or why they are refused.
-use mathlib.Core.Bool.{Bool}
 use mathlib.Core.List.{List}
 use Prim.Native.Nat.{ℕ, _+_, _*_}
 use lib.Dec.{ltb}

@@ -1,5 +1,4 @@
 -- Document 01, "Refusal numbers", those that reader and writer share: from numbers alone, so that they say the same of bytes and of lists.
-use mathlib.Core.Bool.{Bool}
 use mathlib.Core.List.{List}
 use Prim.Native.Nat.{ℕ, zero, suc}
 use lib.Dec.{eqb}

@@ -1,5 +1,4 @@
 -- Document 01, "Bytes": the bytes of a job, and what the job writer answers and leaves in the buffer.
-use mathlib.Core.Bool.{Bool}
 use mathlib.Core.List.{List, [], _∷_, _++_}
 use Prim.Native.Nat.{ℕ}
 use lib.Dec.{ltb}

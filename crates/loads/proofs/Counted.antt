@@ -7,38 +7,15 @@ use native.Mathlib.Numerals.{add-one}
 use native.Mathlib.Omega.{arith}
 use lib.Dec.{eqb}
 use lib.ListN.{length, getD, set, length-append, replicate, getD-replicate}
-use lib.Seq.{set-set, set-comm, set-getD}
-use borrow.Author.Tests.{eq-eqb, ne-eqb, eqb-true, eqb-false}
+use borrow.Author.Tests.{eq-eqb, ne-eqb}
 use Rattle.ring.specs.Numbers.{pick, both, one-if}
-use Rattle.ring.specs.Lists.{total, count, joined, fill}
+use Rattle.ring.specs.Lists.{total, count, joined, upTo, fill}
 use Rattle.ring.specs.Boards.{next}
-use Rattle.ring.specs.Worked.{upTo}
 use Rattle.ring.proofs.Tests.{one-if-le}
 use Rattle.ring.proofs.Totals.{each-all, total-le, total-append, total-length}
 use Rattle.ring.proofs.Neighbours.{next-below}
-use Rattle.ring.proofs.Fill.{fill-at}
-use Rattle.hop.proofs.Same.{fill-same}
+use Rattle.ring.proofs.Fill.{fill-at, fill-self, fill-set}
 use Rattle.loads.specs.Counts.{linksIn}
-
--- a list that holds the values already
-fill-self : (g : ℕ → ℕ) (n : ℕ) (xs : List ℕ) → ((i : ℕ) → i < n → g i ≡ getD xs i 0) → fill g n xs ≡ xs
-unfolding fill
-fill-self g zero xs h = refl
-fill-self g (suc k) xs h = (λ t. set (fill-self g k xs (λ i l. h i (omega arith)) t) k (h k (omega arith) t)) ∙ set-getD xs k 0
-
--- one place of those filled is changed
-fill-set : (g h : ℕ → ℕ) (at : ℕ) → ((i : ℕ) → (i ≡ at → ⊥) → g i ≡ h i) → (n : ℕ) (xs : List ℕ) → at < n → set (fill g n xs) at (h at) ≡ fill h n xs
-unfolding fill
-fill-set g h at e zero xs l = absurd (omega arith)
-fill-set g h at e (suc k) xs l = by (λ q. fill-set g h at e k xs q) (eqb at k) refl
-  where
-    by : (at < k → set (fill g k xs) at (h at) ≡ fill h k xs) → (t : Bool) → eqb at k ≡ t → set (set (fill g k xs) k (g k)) at (h at) ≡ set (fill h k xs) k (h k)
-    by more true p =
-        let q : at ≡ k = eqb-true at k p in
-        rw q (set-set (fill g k xs) k (g k) (h k) ∙ ap (λ (l : List ℕ). set l k (h k)) (fill-same g h k xs (record { at = λ i m. e i (λ z. omega arith) })))
-    by more false p =
-        let ne : at ≡ k → ⊥ = eqb-false at k p in
-        set-comm (fill g k xs) k at (g k) (h at) (λ z. ne (sym z)) ∙ (λ t. set (more (omega arith) t) k (e k (λ z. ne (sym z)) t))
 
 module _ {A : Type 0} where
   -- no more pass a test than there are

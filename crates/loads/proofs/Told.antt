@@ -20,7 +20,7 @@ use Rattle.ring.proofs.Moves.{as-many}
 use Rattle.hop.specs.declared.Check.the-variants.{Ring}
 use Rattle.hop.specs.declared.Job.{Job}
 use Rattle.hop.specs.Read.{jobOf}
-use Rattle.hop.proofs.Same.{fill-same}
+use Rattle.ring.proofs.Fill.{fill-same}
 use Rattle.hop.proofs.Accepted.{job-accepted, arrays}
 use Rattle.planner.specs.declared.Planned.the-variants.{Plan}
 use Rattle.planner.specs.PlanBytes.{planBytes}

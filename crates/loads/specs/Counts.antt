@@ -3,11 +3,10 @@
 use mathlib.Core.List.{List, []}
 use Prim.Native.Nat.{ℕ, _+_, _*_, _-_, _≤_, _<_}
 use lib.ListN.{getD, replicate}
-use Rattle.ring.specs.Lists.{fill}
+use Rattle.ring.specs.Lists.{upTo, fill}
 use Rattle.ring.specs.Boards.{Ring, ringIn}
 use Rattle.ring.specs.Schedule.{Send, receivedBy, sentBefore}
 use Rattle.ring.specs.Bytes.{wordAt}
-use Rattle.ring.specs.Worked.{upTo}
 use Rattle.loads.specs.declared.Counts.{Counts}
 
 -- the place of record k

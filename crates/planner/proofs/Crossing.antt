@@ -16,7 +16,7 @@ use Rattle.ring.proofs.Totals.{each-all, count-with}
 use Rattle.ring.proofs.Neighbours.{prev-below}
 use Rattle.ring.proofs.Planned.{sent-by, received-by}
 use Rattle.ring.proofs.Best.{timed}
-use Rattle.hop.proofs.Same.{fill-same}
+use Rattle.ring.proofs.Fill.{fill-same}
 use Rattle.planner.specs.declared.sums.Outline.{Outline}
 use Rattle.planner.specs.Outline.{carriesIn, outlineOf, crossings}
 use Rattle.planner.specs.Traffic.{sendsBy, trafficIn}

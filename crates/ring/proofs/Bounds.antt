@@ -1,25 +1,21 @@
 -- How large the numbers of an accepted ring can be.
 use mathlib.Core.Path.{_≡_}
 use mathlib.Core.Logic.{inl, inr}
-use Prim.Native.Nat.{ℕ, suc, _*_, _-_, _≤_, _<_}
+use Prim.Native.Nat.{ℕ, _*_, _-_, _≤_, _<_}
 use native.Mathlib.Nat.{mul-le-mul, le-trans}
 use native.Mathlib.Omega.{arith}
 use borrow.Author.Tests.{eq-eqb, ne-eqb}
 use Rattle.ring.specs.Numbers.{sum}
 use Rattle.ring.specs.Boards.{Ring, Accepted, mostLoad, mostCost}
-use Rattle.ring.specs.Plan.{level, carries, surplusSize, rounds, moves, finishOf}
-use Rattle.ring.proofs.Sums.{sum-mono, sum-term, sum-most, greatest-has}
+use Rattle.ring.specs.Plan.{carries, surplusSize, rounds, moves, finishOf}
+use Rattle.ring.proofs.Sums.{sum-term, sum-most, greatest-has}
 use Rattle.ring.proofs.Level.{kind-is, carries-le, spread}
 use Rattle.ring.proofs.TwoWay.{roomy}
 
 module _ (r : Ring) (ok : Accepted r) where
-  -- the items of the ring, and the level, the items of a link, and the rounds against them
+  -- the items of the ring, and the items of a link and the rounds against them
   pub items-most : sum (r .load) (r .n) ≤ 128 * mostLoad
   items-most = omega (arith, ok .boards, sum-most (r .load) mostLoad (r .n) (λ i h. ok .loads i h .1))
-
-  pub level-most : (i : ℕ) → i < r .n → level r i ≤ 2 * sum (r .load) (r .n)
-  unfolding level
-  level-most i h = omega (arith, ok .balanced, sum-mono (r .load) (suc i) (r .n) h)
 
   pub carries-most : (i : ℕ) → i < r .n → carries r i ≤ sum (r .load) (r .n)
   carries-most i h = le-trans (carries-le r ok i h) (spread r ok)

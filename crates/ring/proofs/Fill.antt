@@ -1,13 +1,13 @@
--- A list whose first places are filled: its length and its elements. Assumes nothing.
-use mathlib.Core.Path.{_≡_, refl, _∙_}
+-- A list whose first places are filled: its length, its elements, and when two are the same. Assumes nothing.
+use mathlib.Core.Path.{_≡_, refl, sym, ap, _∙_}
 use mathlib.Core.Bool.{Bool, true, false}
 use mathlib.Core.List.{List}
 use Prim.Native.Nat.{ℕ, zero, suc, _≤_, _<_}
 use native.Mathlib.Omega.{arith}
-use lib.Dec.{ltb}
+use lib.Dec.{eqb, ltb}
 use lib.ListN.{length, getD, set, length-set}
-use lib.Seq.{getD-set-same, getD-set-other}
-use borrow.Author.Tests.{ltb-true, ltb-false}
+use lib.Seq.{getD-set-same, getD-set-other, set-set, set-comm, set-getD}
+use borrow.Author.Tests.{ltb-true, ltb-false, eqb-true, eqb-false}
 use Rattle.ring.specs.Lists.{fill}
 
 module _ {A : Type 0} (g : ℕ → A) (xs : List A) (d : A) where
@@ -26,3 +26,35 @@ module _ {A : Type 0} (g : ℕ → A) (xs : List A) (d : A) where
       by r false p =
           let q : i ≡ k = omega (arith, ltb-false i k p) in
           rw q (getD-set-same (fill g k xs) k (g k) d (omega (arith, fill-length k)))
+
+-- two functions agree below n
+pub record Below {A : Type 0} (f g : ℕ → A) (n : ℕ) : Type 0 where
+  pub at : (i : ℕ) → i < n → f i ≡ g i
+
+pub less : {A : Type 0} (f g : ℕ → A) (k : ℕ) → Below f g (suc k) → Below f g k
+less f g k b = record { at = λ i h. b .at i (omega arith) }
+
+pub fill-same : {A : Type 0} (f g : ℕ → A) (n : ℕ) (xs : List A) → Below f g n → fill f n xs ≡ fill g n xs
+unfolding fill
+fill-same f g zero xs b = refl
+fill-same f g (suc k) xs b = λ t. set (fill-same f g k xs (less f g k b) t) k (b .at k (omega arith) t)
+
+-- a list that holds the values already
+pub fill-self : (g : ℕ → ℕ) (n : ℕ) (xs : List ℕ) → ((i : ℕ) → i < n → g i ≡ getD xs i 0) → fill g n xs ≡ xs
+unfolding fill
+fill-self g zero xs h = refl
+fill-self g (suc k) xs h = (λ t. set (fill-self g k xs (λ i l. h i (omega arith)) t) k (h k (omega arith) t)) ∙ set-getD xs k 0
+
+-- one place of those filled is changed
+pub fill-set : (g h : ℕ → ℕ) (at : ℕ) → ((i : ℕ) → (i ≡ at → ⊥) → g i ≡ h i) → (n : ℕ) (xs : List ℕ) → at < n → set (fill g n xs) at (h at) ≡ fill h n xs
+unfolding fill
+fill-set g h at e zero xs l = absurd (omega arith)
+fill-set g h at e (suc k) xs l = by (λ q. fill-set g h at e k xs q) (eqb at k) refl
+  where
+    by : (at < k → set (fill g k xs) at (h at) ≡ fill h k xs) → (t : Bool) → eqb at k ≡ t → set (set (fill g k xs) k (g k)) at (h at) ≡ set (fill h k xs) k (h k)
+    by more true p =
+        let q : at ≡ k = eqb-true at k p in
+        rw q (set-set (fill g k xs) k (g k) (h k) ∙ ap (λ (l : List ℕ). set l k (h k)) (fill-same g h k xs (record { at = λ i m. e i (λ z. omega arith) })))
+    by more false p =
+        let ne : at ≡ k → ⊥ = eqb-false at k p in
+        set-comm (fill g k xs) k at (g k) (h at) (λ z. ne (sym z)) ∙ (λ t. set (more (omega arith) t) k (e k (λ z. ne (sym z)) t))

@@ -1,14 +1,13 @@
 -- The sends of the plan: so many as there are moves, and in plan order; and the tight link.
 use mathlib.Core.Path.{_≡_, refl, _∙_}
-use mathlib.Core.Logic.{_⊎_, inl, inr}
-use Prim.Native.Nat.{_-_, _<_}
+use mathlib.Core.Logic.{inl, inr}
+use Prim.Native.Nat.{_-_}
 use native.Mathlib.Omega.{arith}
 use lib.IntN.{natAbs}
 use lib.ListN.{length}
 use Rattle.ring.specs.Numbers.{sum}
 use Rattle.ring.specs.Lists.{EachTwo}
 use Rattle.ring.specs.Boards.{Ring, Accepted}
-use Rattle.ring.specs.Schedule.{Send}
 use Rattle.ring.specs.Plan.{InOrder, f, ahead, behind, carries, plan, moves, tight}
 use Rattle.ring.proofs.Tests.{le-lt}
 use Rattle.ring.proofs.Sums.{sum-eq, sum-ones, sum-term, Peak, peak-is}

@@ -7,11 +7,10 @@ use lib.Dec.{ltb}
 use lib.IntN.{ℤ, pos, negsuc, _-ℤ_, natAbs}
 use lib.Signed.{ltZ}
 use borrow.Author.Tests.{ltb-false}
-use Rattle.ring.specs.declared.Board.{Board}
 use Rattle.ring.specs.declared.Made.{Made}
 use Rattle.ring.specs.declared.Made.the-variants.{Sound, Load, After, Cost}
 use Rattle.ring.specs.Numbers.{pick}
-use Rattle.ring.specs.Limits.{outside, outsideℤ, boardOf, costOf, faultOf}
+use Rattle.ring.specs.Limits.{outsideℤ, boardOf, costOf, faultOf}
 
 -- neither test held
 neither : (t u : Bool) (a x : Made) → (faultOf a ≡ 0 → ⊥) → faultOf (pick t a (pick u a x)) ≡ 0 → (t ≡ false) × (u ≡ false) × (pick t a (pick u a x) ≡ x)

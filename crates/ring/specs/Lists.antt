@@ -29,6 +29,10 @@ unfoldable pub joined : {A : Type 0} → (ℕ → List A) → ℕ → List A
 joined g zero = []
 joined g (suc k) = joined g k ++ g k
 
+-- the values g 0 .. g (k - 1)
+abbrev pub upTo : {A : Type 0} → (ℕ → A) → ℕ → List A
+upTo g k = joined (λ i. g i ∷ []) k
+
 -- xs with g 0 .. g (k - 1) in its first k places
 unfoldable pub fill : {A : Type 0} → (ℕ → A) → ℕ → List A → List A
 fill g zero xs = xs

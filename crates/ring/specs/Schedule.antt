@@ -2,7 +2,6 @@
 use mathlib.Core.Path.{_≡_}
 use mathlib.Core.List.{List, [], _∷_}
 use Prim.Native.Nat.{ℕ, _+_, _-_, _≤_, _<_, max}
-use mathlib.Core.Bool.{Bool}
 use mathlib.Core.Logic.{_⊎_}
 use lib.Dec.{eqb, ltb, leb}
 use Rattle.ring.specs.Numbers.{pick, both}

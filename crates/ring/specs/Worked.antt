@@ -6,9 +6,9 @@ use lib.Dec.{eqb}
 use lib.IntN.{ℤ, pos, negsuc, _-ℤ_, natAbs}
 use lib.ListN.{length}
 use Rattle.ring.specs.Numbers.{both}
-use Rattle.ring.specs.Lists.{joined}
+use Rattle.ring.specs.Lists.{upTo}
 use Rattle.ring.specs.Boards.{Ring, ringIn}
-use Rattle.ring.specs.Schedule.{Send, loadAt, inFlight, finish}
+use Rattle.ring.specs.Schedule.{loadAt, inFlight, finish}
 use Rattle.ring.specs.Plan.{f, rounds, startOf, wayOf, carries, plan, finishOf, moves, tight}
 
 -- one thing that is said of a ring's plan
@@ -51,10 +51,6 @@ same (x ∷ xs) (y ∷ ys) = both (eqb (natAbs (x -ℤ y)) 0) (same xs ys)
 -- the same of natural numbers
 abbrev pub alike : List ℕ → List ℕ → Bool
 alike xs ys = same (map pos xs) (map pos ys)
-
--- the values g 0 .. g (k - 1)
-abbrev pub upTo : {A : Type 0} → (ℕ → A) → ℕ → List A
-upTo g k = joined (λ i. g i ∷ []) k
 
 -- link i sends this way, and starts at these ticks
 abbrev pub starts : Ring → ℕ → ℕ → List ℕ → Bool

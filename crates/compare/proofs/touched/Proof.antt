@@ -1,7 +1,6 @@
 -- Every byte is passed once.
 use borrow.Author.Needs.{needs}
 use Prim.Native.Nat.{_≤_, _-_}
-use mathlib.Core.Path.{_≡_}
 use lib.ListN.{length}
 use Rattle.compare.proofs.touched.Statement.{statement}
 use Rattle.compare.proofs.touched.Tie as tie

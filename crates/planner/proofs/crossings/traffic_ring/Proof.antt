@@ -1,6 +1,5 @@
 -- `crossings::traffic_ring`: the plan's numbers are the ring's, and its boards' crossings are their sends and receipts. Assumes nothing.
 use mathlib.Core.Path.{_∙_}
-use Prim.Native.Nat.{_≤_}
 use native.Mathlib.Omega.{arith}
 use lib.ListN.{replicate}
 use Rattle.ring.specs.Boards.{Ring, ringIn}
