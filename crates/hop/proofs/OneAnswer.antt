@@ -10,10 +10,10 @@ use Rattle.hop.proofs.board.Kinds as board
 use Rattle.hop.proofs.board.Reads as board-said
 use Rattle.hop.proofs.job_length.Kinds as job-length
 use Rattle.hop.proofs.job_length.Reads as job-length-said
-use Rattle.hop.proofs.read.Kinds as read
-use Rattle.hop.proofs.read.Reads as read-said
-use Rattle.hop.proofs.write.Kinds as write
-use Rattle.hop.proofs.write.Reads as write-said
+use Rattle.hop.proofs.reader.read.Kinds as read
+use Rattle.hop.proofs.reader.read.Reads as read-said
+use Rattle.hop.proofs.writer.write.Kinds as write
+use Rattle.hop.proofs.writer.write.Reads as write-said
 
 -- of each: lifetimes, the arguments, two answers, and what is lent as the function returns
 pub one-number : (κs : Lfts 0) (a : Dens κs number.ps) (x y : resT number.r κs .Denot) (s t : AtExit (endedOf 0 number.ps number.r) κs)
