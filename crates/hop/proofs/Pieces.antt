@@ -27,11 +27,6 @@ module _ (g : ℕ → List ℕ) (long : (i : ℕ) → length (g i) ≡ 6) where
         | inr l ↦ List·getD-append (joined g k) (g k) 0 (6 * i + j) (omega (arith, joined-long k)) ∙ joined-at k i j l w
       ]
 
-pub joined-same : {A : Type 0} (g h : ℕ → List A) (k : ℕ) → ((i : ℕ) → i < k → g i ≡ h i) → joined g k ≡ joined h k
-unfolding joined
-joined-same g h zero e = refl
-joined-same g h (suc k) e = λ t. joined-same g h k (λ i l. e i (omega arith)) t ++ e k (omega arith) t
-
 -- the first k elements, one by one
 pub first : (k : ℕ) (xs : List ℕ) → k ≤ length xs → take k xs ≡ joined (λ j. getD xs j 0 ∷ []) k
 unfolding joined

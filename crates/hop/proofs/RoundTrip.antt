@@ -20,8 +20,8 @@ use Rattle.hop.specs.Read.{jobLength, loadAt, surplusAt, costAt, headOf,
 use Rattle.hop.specs.Write.{headBytes, recordBytes, boardBytes, jobBytes, listsOf, roomOf, writtenOf, bufferBy, bufferOf}
 use Rattle.hop.proofs.First.{goes}
 use Rattle.hop.proofs.Passed.{shape-ring}
-use Rattle.hop.proofs.Pieces.{joined-same}
 use Rattle.ring.proofs.Fill.{Below}
+use Rattle.ring.proofs.Joined.{joined-same}
 use Rattle.hop.proofs.Same.{check-same}
 use Rattle.hop.proofs.Reading.{loads-are, surpluses-are, costs-are}
 use Rattle.hop.proofs.Accepted.{check-ring, head-ring, job-beside, header, arrays}

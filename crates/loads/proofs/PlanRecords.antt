@@ -10,8 +10,8 @@ use Rattle.ring.specs.Boards.{Ring}
 use Rattle.ring.specs.Schedule.{Send, Allowed}
 use Rattle.ring.specs.Plan.{plan, finishOf, moves}
 use Rattle.ring.proofs.Moves.{as-many}
+use Rattle.ring.proofs.Joined.{joined-same}
 use Rattle.planner.specs.PlanBytes.{sendBytes, recordsOf, headBytes, planBytes}
-use Rattle.hop.proofs.Pieces.{joined-same}
 use Rattle.planner.proofs.Bytes.{send-long, head-long}
 use Rattle.planner.proofs.ReadBack.{Fitting, word-back}
 use Rattle.loads.specs.Counts.{recordPlace, recordAt, recordsIn}

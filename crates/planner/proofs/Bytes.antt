@@ -1,15 +1,17 @@
 -- How many bytes a plan's parts have, and its records as pieces, link by link. Assumes nothing.
 use mathlib.Core.Path.{_≡_, refl, sym, ap, _∙_}
 use mathlib.Core.List.{List, [], _∷_, _++_, append-assoc, append-nil}
-use Prim.Native.Nat.{ℕ, zero, suc, _*_}
+use Prim.Native.Nat.{ℕ, zero, suc, _+_, _*_, _-_, _<_}
 use native.Mathlib.Omega.{arith}
-use lib.ListN.{length, length-append}
+use lib.ListN.{length, take, drop, length-append}
+use lib.Seq.{take-at, drop-at}
+use Rattle.ring.specs.Numbers.{sum}
 use Rattle.ring.specs.Lists.{joined}
 use Rattle.ring.specs.Boards.{Ring}
 use Rattle.ring.specs.Schedule.{Send}
-use Rattle.ring.specs.Plan.{plan, sendOf, linkSends, carries}
-use Rattle.planner.specs.PlanBytes.{sendBytes, linkBytes, recordsOf, headBytes}
-use Rattle.hop.proofs.Pieces.{joined-same}
+use Rattle.ring.specs.Plan.{plan, sendOf, wayOf, startOf, linkSends, carries, finishOf, moves}
+use Rattle.ring.proofs.Joined.{joined-same, joined-add}
+use Rattle.planner.specs.PlanBytes.{sendBytes, linkBytes, recordsOf, headBytes, planBytes}
 
 pub send-long : (s : Send) → length (sendBytes s) ≡ 6
 unfolding sendBytes
@@ -47,3 +49,31 @@ records-each s k = records-joined (λ j. s j ∷ []) k ∙ joined-same _ _ k (λ
 -- the records of a plan: link by link, send by send
 pub records-plan : (r : Ring) → recordsOf (plan r) ≡ joined (λ i. joined (λ j. sendBytes (sendOf r i (suc j))) (carries r i)) (r .n)
 records-plan r = records-joined (λ i. linkSends r i (carries r i)) (r .n) ∙ joined-same _ _ (r .n) (λ i h. records-each (λ j. sendOf r i (suc j)) (carries r i))
+
+-- pieces of six bytes for each of w's
+pieces-long : (g : ℕ → List ℕ) (w : ℕ → ℕ) → ((i : ℕ) → length (g i) ≡ 6 * w i) → (k : ℕ) → length (joined g k) ≡ 6 * sum w k
+unfolding joined sum
+pieces-long g w long zero = refl
+pieces-long g w long (suc k) = simp (length-append, long, pieces-long g w long k) (omega arith)
+
+-- the records of a link in the plan's bytes: after the head and the records of all lower links
+module _ (r : Ring) (rest : List ℕ) (i : ℕ) (h : i < r .n) where
+  abbrev piece : ℕ → List ℕ
+  piece k = recordsOf (linkSends r k (carries r k))
+
+  piece-long : (k : ℕ) → length (piece k) ≡ 6 * carries r k
+  piece-long k = ap (λ (l : List ℕ). length l) (records-each (λ j. sendOf r k (suc j)) (carries r k)) ∙ link-long k (wayOf r k) (λ x. startOf r k (suc x)) (carries r k)
+
+  pub link-begins : take (6 * carries r i) (drop (15 + 6 * sum (carries r) i) (planBytes r ++ rest)) ≡ recordsOf (linkSends r i (carries r i))
+  unfolding joined
+  link-begins =
+      let head = headBytes (r .kind) (r .n) (finishOf r) (moves r) in
+      let later = joined (λ x. piece (suc i + x)) (r .n - suc i) in
+      let n : r .n ≡ suc i + (r .n - suc i) = omega arith in
+      let split : recordsOf (plan r) ≡ (joined piece i ++ piece i) ++ later =
+      records-joined (λ k. linkSends r k (carries r k)) (r .n) ∙ ap (joined piece) n ∙ joined-add piece (suc i) (r .n - suc i) in
+      let e : planBytes r ++ rest ≡ (head ++ joined piece i) ++ (piece i ++ (later ++ rest)) = rw split (simp append-assoc) in
+      let long : length (head ++ joined piece i) ≡ 15 + 6 * sum (carries r) i =
+      simp (length-append, head-long, pieces-long piece (carries r) piece-long i) in
+      rw (e, drop-at (head ++ joined piece i) (piece i ++ (later ++ rest)) (15 + 6 * sum (carries r) i) long)
+      (take-at (piece i) (later ++ rest) (6 * carries r i) (piece-long i))

@@ -2,14 +2,15 @@
 -- the words of document 01 that it is. Assumes nothing.
 use mathlib.Core.Path.{_≡_, refl, sym, ap, subst, _∙_}
 use mathlib.Core.List.{List, _++_}
-use Prim.Native.Nat.{ℕ, _≤_, _<_}
+use Prim.Native.Nat.{ℕ, _+_, _*_, _≤_, _<_}
 use native.Mathlib.Omega.{arith}
 use lib.ListN.{length, take, drop, length-append, length-drop}
 use lib.Seq.{drop-at}
 use borrow.Author.Tests.{lt-ltb, le-ltb}
+use Rattle.ring.specs.Numbers.{sum}
 use Rattle.ring.specs.Boards.{Ring, Accepted}
 use Rattle.ring.specs.Schedule.{Send, Valid, finish}
-use Rattle.ring.specs.Plan.{plan, finishOf, moves, tight}
+use Rattle.ring.specs.Plan.{linkSends, carries, plan, finishOf, moves, tight}
 use Rattle.ring.proofs.Bounds.{moves-most}
 use Rattle.ring.proofs.Demand3.{plan-is-valid, finish-is, none-sooner, moves-is, finish-fits}
 use Rattle.hop.specs.declared.Check.the-variants.{Ring as Read, Refused as Unread}
@@ -18,9 +19,9 @@ use Rattle.hop.specs.Read.{jobOf}
 use Rattle.hop.proofs.Accepted.{job-accepted}
 use Rattle.planner.specs.declared.Planned.{Planned}
 use Rattle.planner.specs.declared.Planned.the-variants.{Plan, Refused}
-use Rattle.planner.specs.PlanBytes.{headBytes, planBytes, planLength, finishIn, movesIn, planIn}
+use Rattle.planner.specs.PlanBytes.{recordsOf, headBytes, planBytes, planLength, finishIn, movesIn, planIn}
 use Rattle.planner.specs.Answer.{answerFor, ringFor, planAnswer, planMemory}
-use Rattle.planner.proofs.Bytes.{head-long, records-long}
+use Rattle.planner.proofs.Bytes.{head-long, records-long, link-begins}
 use Rattle.planner.proofs.ReadBack.{fitting, finish-back, moves-back, plan-back}
 use Rattle.planner.proofs.Reading.{unread-answer, unread-memory, read-answer, read-memory}
 
@@ -33,6 +34,8 @@ pub record Closed (r : Ring) (xs ys : List ℕ) (p : Planned) : Type 0 where
   pub head : take 15 ys ≡ headBytes (r .kind) (r .n) (finishOf r) (moves r)
   -- "then a record for each send": the records say the sends of section "The plan"
   pub sends : planIn ys ≡ plan r
+  -- "The sends of link i begin at byte 15 + 6 × the sends of all lower links."
+  pub begins : (i : ℕ) → i < r .n → take (6 * carries r i) (drop (15 + 6 * sum (carries r) i) ys) ≡ recordsOf (linkSends r i (carries r i))
   -- "A valid schedule": all its rules, with "after all sends each board has load − surplus"
   pub valid : Valid r (planIn ys)
   -- "The finish is the largest end": it is the finish that the bytes say
@@ -64,6 +67,7 @@ module _ (r : Ring) (ok : Accepted r) (xs : List ℕ) where
         answer = refl;
         head = refl;
         sends = back;
+        begins = link-begins r tail;
         valid = subst (Valid r) (sym back) good;
         ends = ap (finish r) back ∙ finish-is r ok ∙ sym (finish-back r tail (fits .1));
         none-before = λ σ v. rw back (none-sooner r ok σ v);

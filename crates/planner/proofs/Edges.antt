@@ -11,12 +11,11 @@ use lib.ListN.{length, drop, getD}
 use borrow.Rule.Slice.PartMut.{putMid, midOf}
 use borrow.Author.Tests.{ltb-true, ltb-false, lt-ltb, le-ltb}
 use Rattle.ring.specs.Lists.{joined}
+use Rattle.ring.proofs.Joined.{joined-same, joined-add}
 use Rattle.planner.specs.PlanBytes.{sendBytes, linkBytes}
 use Rattle.planner.specs.Runs.{at, In}
 use Rattle.planner.specs.EvenRuns.{edgeOf, Even, runsBytes}
-use Rattle.hop.proofs.Pieces.{joined-same}
 use Rattle.hop.proofs.Grow.{Begins, more}
-use Rattle.planner.proofs.Joined.{joined-add}
 use Rattle.planner.proofs.Bytes.{link-long}
 
 -- the runs below e are written, up to send `begin`

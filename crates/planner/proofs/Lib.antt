@@ -1,4 +1,3 @@
-pub mod Joined
 pub mod Bytes
 pub mod Grow
 pub mod Edges

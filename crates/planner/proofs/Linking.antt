@@ -10,7 +10,7 @@ use Rattle.planner.specs.Runs.{at, oneWay, startBack, Runs}
 use Rattle.planner.specs.EvenRuns.{Even, runsBytes}
 use Rattle.planner.specs.Outline.{between}
 use Rattle.planner.specs.Links.{wayBy, startTwo, pieceBy}
-use Rattle.hop.proofs.Pieces.{joined-same}
+use Rattle.ring.proofs.Joined.{joined-same}
 use Rattle.planner.proofs.Edges.{runs-are}
 
 -- records by their starts, and so many of them

@@ -15,10 +15,10 @@ use Rattle.ring.specs.Plan.{level, offset, ahead, behind, carries, rounds, star
 use Rattle.ring.proofs.Level.{none-behind}
 use Rattle.ring.proofs.Bounds.{within-rounds}
 use Rattle.ring.proofs.Best.{timed}
+use Rattle.ring.proofs.Joined.{joined-same}
 use Rattle.planner.specs.PlanBytes.{sendBytes, recordsOf}
 use Rattle.planner.specs.Runs.{oneWay, startBack}
 use Rattle.planner.specs.Links.{startBy, pieceBy, Linked}
-use Rattle.hop.proofs.Pieces.{joined-same}
 use Rattle.planner.proofs.Bytes.{records-plan}
 use Rattle.planner.proofs.RunRing.{back-same, starts-same, one-way}
 

@@ -6,13 +6,13 @@ use native.Mathlib.Omega.{arith}
 use lib.ListN.{length, getD, replicate}
 use Rattle.ring.specs.Schedule.{sender, receiver}
 use Rattle.ring.proofs.Fill.{fill-at, fill-length}
+use Rattle.ring.proofs.Joined.{joined-same}
 use Rattle.hop.specs.declared.Check.the-variants.{Ring as Read, Refused as Unread}
 use Rattle.hop.specs.declared.Job.{Job}
 use Rattle.planner.specs.declared.Planned.the-variants.{Plan, Refused}
 use Rattle.planner.specs.declared.Traffic.{Traffic}
 use Rattle.planner.specs.Answer.{ringFor, planAnswer}
 use Rattle.planner.specs.Traffic.{sendsBy, trafficBy, trafficOf}
-use Rattle.hop.proofs.Pieces.{joined-same}
 use Rattle.report.specs.Text.{firstLine, boardLine, boardLines, refusalLine}
 use Rattle.report.specs.Report.{textBy, reportOf}
 

@@ -1,11 +1,24 @@
--- What holds of each element, and of each two, of pieces one after the other, and what a total over them is. Assumes nothing.
-use mathlib.Core.Path.{_≡_, refl}
-use mathlib.Core.List.{List}
-use Prim.Native.Nat.{ℕ, zero, suc, _<_}
+-- Pieces one after the other: when they are the same, the first of them and the others, what holds of each element and of each two, and what
+-- a total over them is. Assumes nothing.
+use mathlib.Core.Path.{_≡_, refl, ap, _∙_}
+use mathlib.Core.List.{List, _++_, append-assoc, append-nil}
+use Prim.Native.Nat.{ℕ, zero, suc, _+_, _<_}
+use native.Mathlib.Nat.{add-zero, add-suc}
 use native.Mathlib.Omega.{arith}
 use Rattle.ring.specs.Numbers.{sum}
 use Rattle.ring.specs.Lists.{Each, EachTwo, total, joined}
 use Rattle.ring.proofs.Totals.{each-append, two-append, total-append}
+
+pub joined-same : {A : Type 0} (g h : ℕ → List A) (k : ℕ) → ((i : ℕ) → i < k → g i ≡ h i) → joined g k ≡ joined h k
+unfolding joined
+joined-same g h zero e = refl
+joined-same g h (suc k) e = λ t. joined-same g h k (λ i l. e i (omega arith)) t ++ e k (omega arith) t
+
+module _ {A : Type 0} (g : ℕ → List A) where
+  pub joined-add : (a b : ℕ) → joined g (a + b) ≡ joined g a ++ joined (λ x. g (a + x)) b
+  unfolding joined
+  joined-add a zero = rw (add-zero, append-nil) refl
+  joined-add a (suc b) = rw (add-suc, joined) (ap (λ (l : List A). l ++ g (a + b)) (joined-add a b) ∙ append-assoc (joined g a) (joined (λ x. g (a + x)) b) (g (a + b)))
 
 module _ {A : Type 0} where
   pub each-joined : (P : A → Type 0) (g : ℕ → List A) (k : ℕ) → ((i : ℕ) → i < k → Each P (g i)) → Each P (joined g k)
