@@ -19,7 +19,8 @@ use Rattle.hop.specs.declared.Check.{Check}
 use Rattle.hop.specs.declared.Check.the-variants.{Ring, Refused as Unread}
 use Rattle.hop.specs.declared.Written.{Written}
 use Rattle.hop.specs.declared.Written.the-variants.{Bytes, Refused as Unwritten}
-use Rattle.hop.specs.Refusals.{each, eachℤ, goesOn, shapeOf, faultless, boardFault, costFault, balancedOf, ringCheck}
+use Rattle.ring.specs.Lists.{each, eachℤ}
+use Rattle.hop.specs.Refusals.{goesOn, shapeOf, faultless, boardFault, costFault, balancedOf, ringCheck}
 use Rattle.hop.specs.Read.{jobLength, loadAt, surplusAt, costAt, sizesOf, headOf, checkOf, jobOf}
 use Rattle.hop.specs.Write.{listsOf, roomOf, writtenOf}
 use Rattle.planner.specs.declared.Planned.{Planned}

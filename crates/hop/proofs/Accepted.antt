@@ -7,7 +7,7 @@ use lib.ListN.{length}
 use Rattle.ring.specs.Boards.{ringIn, Accepted}
 use Rattle.hop.specs.declared.Check.{Check}
 use Rattle.hop.specs.declared.Check.the-variants.{Ring, Refused}
-use Rattle.hop.specs.Refusals.{each, eachℤ}
+use Rattle.ring.specs.Lists.{each, eachℤ}
 use Rattle.hop.specs.Read.{loadAt, surplusAt, costAt, headOf, checkOf, beside, jobOf}
 use Rattle.hop.proofs.Passed.{went-on, Passed, passed, ring-accepted}
 use Rattle.hop.proofs.Reading.{Headed, headed, lengths, check-is}

@@ -12,7 +12,8 @@ use Rattle.hop.specs.declared.Check.{Check}
 use Rattle.hop.specs.declared.Check.the-variants.{Ring, Refused}
 use Rattle.hop.specs.declared.Written.{Written}
 use Rattle.hop.specs.declared.Written.the-variants.{Bytes, Refused as Unwritten}
-use Rattle.hop.specs.Refusals.{each, eachℤ, unlike, shapeOf, ringCheck}
+use Rattle.ring.specs.Lists.{each, eachℤ}
+use Rattle.hop.specs.Refusals.{unlike, shapeOf, ringCheck}
 use Rattle.hop.specs.Read.{jobLength}
 use Rattle.hop.specs.Write.{jobBytes, listsOf, roomOf, writtenOf, bufferBy, bufferOf}
 use Rattle.hop.proofs.First.{yes}

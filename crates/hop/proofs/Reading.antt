@@ -13,7 +13,8 @@ use Rattle.ring.proofs.Fill.{Below, fill-at, fill-length}
 use Rattle.hop.specs.declared.Check.{Check}
 use Rattle.hop.specs.declared.Check.the-variants.{Ring, Refused}
 use Rattle.hop.specs.declared.Job.{Job}
-use Rattle.hop.specs.Refusals.{each, eachℤ, unlike, shapeOf, ringCheck}
+use Rattle.ring.specs.Lists.{each, eachℤ}
+use Rattle.hop.specs.Refusals.{unlike, shapeOf, ringCheck}
 use Rattle.hop.specs.Read.{jobLength, loadAt, surplusAt, costAt, sizesOf, markOf, headOf, checkOf, bare, beside, jobOf}
 use Rattle.hop.proofs.First.{no, yes, stands, goes}
 use Rattle.hop.proofs.Same.{check-same}

@@ -15,7 +15,8 @@ use Rattle.hop.specs.declared.Check.{Check}
 use Rattle.hop.specs.declared.Check.the-variants.{Ring, Refused}
 use Rattle.hop.specs.declared.Written.{Written}
 use Rattle.hop.specs.declared.Written.the-variants.{Bytes, Refused as Unwritten}
-use Rattle.hop.specs.Refusals.{each, eachℤ, ringCheck}
+use Rattle.ring.specs.Lists.{each, eachℤ}
+use Rattle.hop.specs.Refusals.{ringCheck}
 use Rattle.hop.specs.Read.{jobLength, loadAt, surplusAt, costAt, headOf, checkOf, holding, jobOf}
 use Rattle.hop.specs.Write.{headBytes, recordBytes, boardBytes, jobBytes, listsOf, roomOf, writtenOf, bufferBy, bufferOf}
 use Rattle.hop.proofs.First.{goes}

@@ -1,9 +1,7 @@
 -- Document 01, "Refusal numbers", those that reader and writer share: from numbers alone, so that they say the same of bytes and of lists.
-use mathlib.Core.List.{List}
 use Prim.Native.Nat.{ℕ, zero, suc}
 use lib.Dec.{eqb}
-use lib.IntN.{ℤ, pos, natAbs}
-use lib.ListN.{getD}
+use lib.IntN.{ℤ, natAbs}
 use Rattle.ring.specs.Numbers.{pick, sumℤ}
 use Rattle.ring.specs.Limits.{outside, boardOf, faultOf}
 use Rattle.hop.specs.declared.Check.{Check}
@@ -17,13 +15,6 @@ numberOf (Refused number board) = number
 abbrev pub placeOf : Check → ℕ
 placeOf (Ring kind n) = 0
 placeOf (Refused number board) = board
-
--- the numbers of a list, by their place
-abbrev pub each : List ℕ → ℕ → ℕ
-each xs i = getD xs i 0
-
-abbrev pub eachℤ : List ℤ → ℕ → ℤ
-eachℤ xs i = getD xs i (pos 0)
 
 -- a where the two differ, else b
 abbrev pub unlike : {A : Type 0} → ℕ → ℕ → A → A → A

@@ -7,13 +7,13 @@ use lib.ListN.{length, drop}
 use mir.Syntax.{w16}
 use mir.Val.{ofZ}
 use Rattle.ring.specs.Numbers.{pick}
-use Rattle.ring.specs.Lists.{joined}
+use Rattle.ring.specs.Lists.{each, eachℤ, joined}
 use Rattle.ring.specs.Bytes.{halfBytes}
 use Rattle.hop.specs.declared.Check.{Check}
 use Rattle.hop.specs.declared.Check.the-variants.{Ring, Refused}
 use Rattle.hop.specs.declared.Written.{Written}
 use Rattle.hop.specs.declared.Written.the-variants.{Bytes, Refused as Unwritten}
-use Rattle.hop.specs.Refusals.{each, eachℤ, unlike, goesOn, shapeOf, ringCheck}
+use Rattle.hop.specs.Refusals.{unlike, goesOn, shapeOf, ringCheck}
 use Rattle.hop.specs.Read.{jobLength}
 
 -- mark "HOP", version 1, kind, n

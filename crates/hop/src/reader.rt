@@ -2,7 +2,8 @@
 ghost use mathlib.Core.Path.{_≡_};
 ghost use Prim.Native.Nat.{_≤_};
 ghost use lib.ListN.{length};
-ghost use Rattle.hop.specs.Refusals.{each, eachℤ, ringCheck};
+ghost use Rattle.ring.specs.Lists.{each, eachℤ};
+ghost use Rattle.hop.specs.Refusals.{ringCheck};
 ghost use Rattle.hop.specs.Read.{jobLength, sizesOf, markOf, headOf, bare, beside, jobOf};
 use crate::Check;
 use crate::Job;

@@ -3,7 +3,8 @@ ghost use mathlib.Core.Path.{_≡_};
 ghost use Prim.Native.Nat.{_≤_};
 ghost use lib.ListN.{length};
 ghost use Rattle.ring.specs.Numbers.{sumℤ};
-ghost use Rattle.hop.specs.Refusals.{each, eachℤ, shapeOf, ringCheck, alikeOf, balancedOf};
+ghost use Rattle.ring.specs.Lists.{each, eachℤ};
+ghost use Rattle.hop.specs.Refusals.{shapeOf, ringCheck, alikeOf, balancedOf};
 use crate::Check;
 
 // Refusals 4 and 5, or the kind and n.

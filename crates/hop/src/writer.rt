@@ -3,7 +3,7 @@ ghost use mathlib.Core.Path.{_≡_};
 ghost use mathlib.Core.List.{_++_};
 ghost use Prim.Native.Nat.{_≤_};
 ghost use lib.ListN.{length, drop};
-ghost use Rattle.hop.specs.Refusals.{each, eachℤ};
+ghost use Rattle.ring.specs.Lists.{each, eachℤ};
 ghost use Rattle.hop.specs.Read.{jobLength};
 ghost use Rattle.hop.specs.Write.{headBytes, recordBytes, jobBytes, listsOf, writtenOf, bufferOf};
 use crate::Check;

@@ -3,7 +3,7 @@
 use mathlib.Core.List.{List, []}
 use Prim.Native.Nat.{ℕ, _+_, _*_, _-_, _≤_, _<_}
 use lib.ListN.{getD, replicate}
-use Rattle.ring.specs.Lists.{upTo, fill}
+use Rattle.ring.specs.Lists.{each, upTo, fill}
 use Rattle.ring.specs.Boards.{Ring, ringIn}
 use Rattle.ring.specs.Schedule.{Send, receivedBy, sentBefore}
 use Rattle.ring.specs.Bytes.{wordAt}
@@ -35,9 +35,9 @@ countsOf r σ tick =
 
 -- what board i is left with: its load, and what it received, less what it sent
 abbrev pub leftWith : List ℕ → Counts → ℕ → ℕ
-leftWith loads counts i = getD loads i 0 + getD (counts .received) i 0 - getD (counts .sent) i 0
+leftWith loads counts i = each loads i + each (counts .received) i - each (counts .sent) i
 
 -- of n boards, none has more than 32 bits hold, and none has sent more than it had and received
 pub record Covered (n : ℕ) (loads : List ℕ) (counts : Counts) : Type 0 where
-  pub small : (i : ℕ) → i < n → getD loads i 0 + getD (counts .received) i 0 < 4294967296
-  pub enough : (i : ℕ) → i < n → getD (counts .sent) i 0 ≤ getD loads i 0 + getD (counts .received) i 0
+  pub small : (i : ℕ) → i < n → each loads i + each (counts .received) i < 4294967296
+  pub enough : (i : ℕ) → i < n → each (counts .sent) i ≤ each loads i + each (counts .received) i

@@ -10,10 +10,10 @@ use lib.Dec.{ltb}
 use lib.ListN.{length, drop, getD}
 use borrow.Rule.Slice.PartMut.{putMid, midOf}
 use borrow.Author.Tests.{ltb-true, ltb-false, lt-ltb, le-ltb}
-use Rattle.ring.specs.Lists.{joined}
+use Rattle.ring.specs.Lists.{each, joined}
 use Rattle.ring.proofs.Joined.{joined-same, joined-add}
 use Rattle.planner.specs.PlanBytes.{sendBytes, linkBytes}
-use Rattle.planner.specs.Runs.{at, In}
+use Rattle.planner.specs.Runs.{In}
 use Rattle.planner.specs.EvenRuns.{edgeOf, Even, runsBytes}
 use Rattle.hop.proofs.Grow.{Begins, more}
 use Rattle.planner.proofs.Bytes.{link-long}
@@ -44,7 +44,7 @@ module _ {from first step : List ℕ} {m count : ℕ} (even : Even from first st
     pub begins : edgeOf from m count e ≡ getD from e 0
     pub rises : getD from e 0 ≤ edgeOf from m count (e + 1)
     pub within : edgeOf from m count (e + 1) ≤ count
-    pub owns : (x : ℕ) → getD from e 0 ≤ x → x < edgeOf from m count (e + 1) → In (at from) count m e x
+    pub owns : (x : ℕ) → getD from e 0 ≤ x → x < edgeOf from m count (e + 1) → In (each from) count m e x
     pub soon : getD from e 0 < edgeOf from m count (e + 1) → getD first e 0 < 4294967296
 
   pub run-at : (e : ℕ) → e < m → Run e
@@ -53,7 +53,7 @@ module _ {from first step : List ℕ} {m count : ℕ} (even : Even from first st
       next : getD from (suc e) 0 ≡ getD from (e + 1) 0
       next = rw (add-one e)
 
-      made : getD from e 0 ≤ edgeOf from m count (e + 1) → edgeOf from m count (e + 1) ≤ count → ((x : ℕ) → getD from e 0 ≤ x → x < edgeOf from m count (e + 1) → In (at from) count m e x) → Run e
+      made : getD from e 0 ≤ edgeOf from m count (e + 1) → edgeOf from m count (e + 1) ≤ count → ((x : ℕ) → getD from e 0 ≤ x → x < edgeOf from m count (e + 1) → In (each from) count m e x) → Run e
       made p q own = record { begins = edge-from e h; rises = p; within = q; owns = own; soon = λ l. even .soon e (getD from e 0) (own (getD from e 0) (omega arith) l) }
 
       by : (t : Bool) → ltb (e + 1) m ≡ t → Run e
@@ -92,7 +92,7 @@ module _ {from first step : List ℕ} {m count : ℕ} (even : Even from first st
     all-ran t = t .front .is ∙ ap (λ (k : ℕ). runsBytes from first step m count link way m ++ drop (6 * k) part) (t .edge ∙ edge-last)
 
   -- the starts are those that the runs say: then the runs' records are the link's
-  module _ (start : ℕ → ℕ) (says : (e x : ℕ) → In (at from) count m e x → getD first e 0 + getD step e 0 * (x - getD from e 0) ≡ start x) (link way : ℕ) where
+  module _ (start : ℕ → ℕ) (says : (e x : ℕ) → In (each from) count m e x → getD first e 0 + getD step e 0 * (x - getD from e 0) ≡ start x) (link way : ℕ) where
     runs-below : (k : ℕ) → k ≤ m → runsBytes from first step m count link way k ≡ linkBytes link way start (edgeOf from m count k)
     unfolding joined
     runs-below zero h = rw edge-first

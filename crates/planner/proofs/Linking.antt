@@ -6,7 +6,8 @@ use native.Mathlib.Omega.{arith}
 use lib.ListN.{length, drop, getD}
 use borrow.Author.Tests.{lt-ltb, le-ltb, eq-eqb, ne-eqb}
 use Rattle.planner.specs.PlanBytes.{sendBytes, linkBytes}
-use Rattle.planner.specs.Runs.{at, oneWay, startBack, Runs}
+use Rattle.ring.specs.Lists.{each}
+use Rattle.planner.specs.Runs.{oneWay, startBack, Runs}
 use Rattle.planner.specs.EvenRuns.{Even, runsBytes}
 use Rattle.planner.specs.Outline.{between}
 use Rattle.planner.specs.Links.{wayBy, startTwo, pieceBy}
@@ -35,7 +36,7 @@ module _ (link level offset rounds cost : ℕ) (xs : List ℕ) where
       (same-records link 0 (λ x. 0 + x * cost) (λ x. x * cost) (level - offset) (between level offset) xs (omega arith) (λ x h. omega arith))
 
 -- runs that have a link's starts are even, and their records are the link's
-module _ (from first step : List ℕ) (count m : ℕ) (start : ℕ → ℕ) (t : Runs (at from) (at first) (at step) count m start) where
+module _ (from first step : List ℕ) (count m : ℕ) (start : ℕ → ℕ) (t : Runs (each from) (each first) (each step) count m start) where
   pub runs-even : m ≤ length from → m ≤ length first → m ≤ length step → ((x : ℕ) → x < count → start x < 4294967296) → Even from first step m count
   runs-even a b c soon =
       record {

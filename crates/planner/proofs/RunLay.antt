@@ -6,7 +6,7 @@ use native.Mathlib.Nat.{mul-le-mul}
 use native.Mathlib.Omega.{arith}
 use lib.ListN.{length, set}
 use lib.Seq.{getD-set-same, getD-set-other}
-use Rattle.planner.specs.Runs.{at}
+use Rattle.ring.specs.Lists.{each}
 use Rattle.planner.specs.RunSteps.{wide, Stack, Shows, Above, Overtakes, Laid}
 use Rattle.planner.proofs.RunLines.{Place, Put, put-stack, put-shows, above-place, above-below, above-above, whole-place, whole-above, same-shows}
 
@@ -15,7 +15,7 @@ pub narrow : (a b : ℕ) → a ≤ 65535 → b ≤ 4294967295 → a * b < wide
 narrow a b h l = omega (arith, mul-le-mul {n₁ = a} {m₁ = b} {n₂ = 65535} {m₂ = 4294967295} h l)
 
 -- a list with one place set
-pub put-list : (xs ys : List ℕ) (i k y : ℕ) → i ≡ k → k < length xs → ys ≡ set xs i y → Put (at xs) (at ys) k y
+pub put-list : (xs ys : List ℕ) (i k y : ℕ) → i ≡ k → k < length xs → ys ≡ set xs i y → Put (each xs) (each ys) k y
 put-list xs ys i k y q h e =
     record {
       at = rw (e, q) (getD-set-same xs k y 0 h);

@@ -6,24 +6,24 @@ use Prim.Native.Nat.{ℕ, _+_, _*_, _-_, _≤_, _<_}
 use lib.Dec.{ltb}
 use lib.ListN.{length}
 use Rattle.ring.specs.Numbers.{pick}
-use Rattle.ring.specs.Lists.{joined}
+use Rattle.ring.specs.Lists.{each, joined}
 use Rattle.planner.specs.PlanBytes.{linkBytes}
-use Rattle.planner.specs.Runs.{at, In, Cover}
+use Rattle.planner.specs.Runs.{In, Cover}
 
 -- where run e begins, and the run before it ends
 abbrev pub edgeOf : List ℕ → ℕ → ℕ → ℕ → ℕ
-edgeOf from m count e = pick (ltb e m) (at from e) count
+edgeOf from m count e = pick (ltb e m) (each from e) count
 
 module _ (from first step : List ℕ) (m count : ℕ) where
   -- the lists have m runs of a link's sends, and none begins too late for 32 bits
   pub record Even : Type 0 where
-    pub cover : Cover (at from) count m
+    pub cover : Cover (each from) count m
     pub froms : m ≤ length from
     pub firsts : m ≤ length first
     pub steps : m ≤ length step
-    pub soon : (e x : ℕ) → In (at from) count m e x → at first e < 4294967296
+    pub soon : (e x : ℕ) → In (each from) count m e x → each first e < 4294967296
 
   -- the records of the first k runs
   abbrev pub runsBytes : ℕ → ℕ → ℕ → List ℕ
   runsBytes link way k =
-      joined (λ e. linkBytes link way (λ x. at first e + x * at step e) (edgeOf from m count (e + 1) - edgeOf from m count e)) k
+      joined (λ e. linkBytes link way (λ x. each first e + x * each step e) (edgeOf from m count (e + 1) - edgeOf from m count e)) k

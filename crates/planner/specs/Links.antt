@@ -4,9 +4,9 @@ use mathlib.Core.Path.{_≡_}
 use mathlib.Core.List.{List, _++_}
 use Prim.Native.Nat.{ℕ, _+_, _*_, _-_, _≤_, _<_}
 use lib.Dec.{eqb, ltb}
-use lib.ListN.{length, getD, take, drop}
+use lib.ListN.{length, take, drop}
 use Rattle.ring.specs.Numbers.{pick, sum}
-use Rattle.ring.specs.Lists.{joined}
+use Rattle.ring.specs.Lists.{each, joined}
 use Rattle.ring.specs.Boards.{Accepted}
 use Rattle.planner.specs.PlanBytes.{linkBytes}
 use Rattle.planner.specs.Outline.{between, carriesIn}
@@ -23,7 +23,7 @@ startTwo level offset rounds cost x = pick (ltb 0 (offset - level)) ((rounds - (
 -- the start of send x, from 0, of link i
 abbrev pub startBy : ℕ → ℕ → List ℕ → List ℕ → ℕ → ℕ → ℕ → ℕ → ℕ → ℕ
 startBy kind n loads costs level offset rounds i x =
-    pick (eqb kind 3) (startTwo level offset rounds (getD costs i 0) x) (startBack (oneWay n loads costs) i x)
+    pick (eqb kind 3) (startTwo level offset rounds (each costs i) x) (startBack (oneWay n loads costs) i x)
 
 -- the records of link i
 abbrev pub pieceBy : ℕ → ℕ → List ℕ → List ℕ → ℕ → ℕ → ℕ → ℕ → List ℕ
@@ -32,7 +32,7 @@ pieceBy kind n loads costs level offset rounds i =
 
 -- what is known of the numbers of link i: no start passes 32 bits, and no one-way link sends back
 pub record Timely (kind n : ℕ) (loads costs : List ℕ) (level offset rounds i : ℕ) : Type 0 where
-  pub two : kind ≡ 3 → (offset - level ≤ rounds) × (rounds * getD costs i 0 < 4294967296)
+  pub two : kind ≡ 3 → (offset - level ≤ rounds) × (rounds * each costs i < 4294967296)
   pub one : (kind ≡ 3 → ⊥) → (offset ≤ level) × ((x : ℕ) → x < level - offset → startBack (oneWay n loads costs) i x < 4294967296)
 
 -- the lists that the links are written from: long enough, of a ring within the limits, its links timely
@@ -41,10 +41,10 @@ pub record Linked (kind n : ℕ) (loads costs levels : List ℕ) (offset rounds 
   pub loads-long : n ≤ length loads
   pub costs-long : n ≤ length costs
   pub levels-long : n ≤ length levels
-  pub timely : (i : ℕ) → i < n → Timely kind n loads costs (getD levels i 0) offset rounds i
+  pub timely : (i : ℕ) → i < n → Timely kind n loads costs (each levels i) offset rounds i
 
 -- what stands in a buffer after the links' records were put after its first 15 bytes
 abbrev pub linksAfter : ℕ → ℕ → List ℕ → List ℕ → List ℕ → ℕ → ℕ → List ℕ → List ℕ
 linksAfter kind n loads costs levels offset rounds xs =
-    (take 15 xs ++ joined (λ i. pieceBy kind n loads costs (getD levels i 0) offset rounds i) n)
+    (take 15 xs ++ joined (λ i. pieceBy kind n loads costs (each levels i) offset rounds i) n)
     ++ drop (15 + 6 * sum (carriesIn levels offset) n) xs

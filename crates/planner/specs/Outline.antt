@@ -4,8 +4,9 @@ use mathlib.Core.Path.{_≡_}
 use mathlib.Core.List.{List, []}
 use Prim.Native.Nat.{ℕ, _+_, _*_, _-_, _≤_, _<_}
 use lib.IntN.{ℤ, pos, _-ℤ_}
-use lib.ListN.{length, getD}
+use lib.ListN.{length}
 use Rattle.ring.specs.Numbers.{sum, least, greatest, peak}
+use Rattle.ring.specs.Lists.{each, eachℤ}
 use Rattle.ring.specs.Boards.{Ring, Accepted, ringIn, prev, mostLoad}
 use Rattle.ring.specs.Plan.{offset, rounds, moves, tight, finishOf}
 use Rattle.planner.specs.declared.Traffic.{Traffic}
@@ -22,9 +23,9 @@ boardsIn n loads surpluses = ringIn 0 n loads surpluses []
 pub record BoardHeld (loads : List ℕ) (surpluses : List ℤ) (i : ℕ) : Type 0 where
   pub load-here : i < length loads
   pub surplus-here : i < length surpluses
-  pub load-most : getD loads i 0 ≤ mostLoad
+  pub load-most : each loads i ≤ mostLoad
   pub after-most : boardsIn 0 loads surpluses .after i ≤ mostLoad
-  pub after-is : pos (boardsIn 0 loads surpluses .after i) ≡ pos (getD loads i 0) -ℤ getD surpluses i (pos 0)
+  pub after-is : pos (boardsIn 0 loads surpluses .after i) ≡ pos (each loads i) -ℤ eachℤ surpluses i
 
 -- the lists that an accepted job lends: they are long enough, and no load − surplus is negative
 pub record Lent (kind n : ℕ) (loads : List ℕ) (surpluses : List ℤ) (costs : List ℕ) : Type 0 where
@@ -32,11 +33,11 @@ pub record Lent (kind n : ℕ) (loads : List ℕ) (surpluses : List ℤ) (costs 
   pub loads-long : n ≤ length loads
   pub surpluses-long : n ≤ length surpluses
   pub costs-long : n ≤ length costs
-  pub after-is : (i : ℕ) → i < n → pos (boardsIn n loads surpluses .after i) ≡ pos (getD loads i 0) -ℤ getD surpluses i (pos 0)
+  pub after-is : (i : ℕ) → i < n → pos (boardsIn n loads surpluses .after i) ≡ pos (each loads i) -ℤ eachℤ surpluses i
 
 -- the least and the greatest of the first n of a list of levels
 abbrev pub spanOf : ℕ → List ℕ → Span
-spanOf n levels = record { low = least (λ i. getD levels i 0) (n - 1); high = greatest (λ i. getD levels i 0) (n - 1) }
+spanOf n levels = record { low = least (each levels) (n - 1); high = greatest (each levels) (n - 1) }
 
 -- |a − b|; of a link's level and the offset, the items that the link carries
 abbrev pub between : ℕ → ℕ → ℕ
@@ -44,7 +45,7 @@ between a b = (a - b) + (b - a)
 
 -- the items that link i carries, by a list of levels
 abbrev pub carriesIn : List ℕ → ℕ → ℕ → ℕ
-carriesIn levels offset i = between (getD levels i 0) offset
+carriesIn levels offset i = between (each levels i) offset
 
 -- all items carried, the lowest link that carries the most, and the longest time that a link takes for its items
 abbrev pub tallyOf : ℕ → List ℕ → ℕ → List ℕ → Tally
@@ -52,14 +53,14 @@ tallyOf n levels offset costs =
     record {
       moves = sum (carriesIn levels offset) n;
       tight = peak (carriesIn levels offset) (n - 1);
-      slowest = record { 0 = greatest (λ i. carriesIn levels offset i * getD costs i 0) (n - 1) };
+      slowest = record { 0 = greatest (λ i. carriesIn levels offset i * each costs i) (n - 1) };
     }
 
 -- what each of the first k boards sends and receives: on its link, and on the link before it
 abbrev pub crossings : ℕ → List ℕ → ℕ → ℕ → Traffic
 crossings n levels offset k =
-    let ahead : ℕ → ℕ = λ i. getD levels i 0 - offset in
-    let behind : ℕ → ℕ = λ i. offset - getD levels i 0 in
+    let ahead : ℕ → ℕ = λ i. each levels i - offset in
+    let behind : ℕ → ℕ = λ i. offset - each levels i in
     let before : ℕ → ℕ = prev (boardsIn n [] []) in
     record {
       sends = forBoards (λ i. ahead i + behind (before i)) k;

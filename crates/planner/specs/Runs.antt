@@ -3,17 +3,13 @@
 use mathlib.Core.Path.{_≡_}
 use mathlib.Core.List.{List}
 use Prim.Native.Nat.{ℕ, suc, _+_, _*_, _-_, _≤_, _<_}
-use lib.ListN.{getD}
+use Rattle.ring.specs.Lists.{each}
 use Rattle.ring.specs.Boards.{Ring}
 use Rattle.ring.specs.Plan.{endOf}
 
--- the elements of a list, by place
-abbrev pub at : List ℕ → ℕ → ℕ
-at xs k = getD xs k 0
-
 -- a ring of these loads and costs; no load changes, since the sends of a one-way link go by loads and costs alone
 abbrev pub oneWay : ℕ → List ℕ → List ℕ → Ring
-oneWay n loads costs = record { kind = 2; n = n; load = at loads; after = at loads; cost = at costs }
+oneWay n loads costs = record { kind = 2; n = n; load = each loads; after = each loads; cost = each costs }
 
 -- the start of send x of link i of a one-way ring
 abbrev pub startBack : Ring → ℕ → ℕ → ℕ

@@ -5,7 +5,8 @@ ghost use mathlib.Core.List.{[]};
 ghost use Prim.Native.Nat.{ℕ, _+_, _*_, _-_, _<_, _≤_};
 ghost use lib.ListN.{length, set};
 ghost use Rattle.ring.specs.Boards.{Accepted, prev};
-ghost use Rattle.planner.specs.Runs.{at, oneWay, startBack, Runs};
+ghost use Rattle.ring.specs.Lists.{each};
+ghost use Rattle.planner.specs.Runs.{oneWay, startBack, Runs};
 ghost use Rattle.planner.specs.RunSteps.{wide, Stack, Above, Overtakes, Laid};
 use ring::Items;
 use ring::link_time;
@@ -21,8 +22,8 @@ pub(crate) fn link_before(l: usize, n: usize) -> usize
 // The last of m runs that begins above the line of this cost that lags by lag. The first run is one, since there is a lag.
 fn last_above(from: &[u32], first: &[u64], m: usize, cost: u16, lag: u64) -> usize
     requires { ⌜ (1 ≤ m) × (m ≤ length (now from)) × (m ≤ length (now first)) × (1 ≤ lag) × (lag < wide) ⌝ }
-    requires { ⌜ (at (now from) 0 ≡ 0) × ((e : ℕ) → e < m → at (now first) e < wide) ⌝ }
-    ensures { λ r. ⌜ Above (at (now (from .entry))) (at (now (first .entry))) m cost lag r ⌝ }
+    requires { ⌜ (each (now from) 0 ≡ 0) × ((e : ℕ) → e < m → each (now first) e < wide) ⌝ }
+    ensures { λ r. ⌜ Above (each (now (from .entry))) (each (now (first .entry))) m cost lag r ⌝ }
 {
     let mut j = m - 1;
     loop {
@@ -67,10 +68,10 @@ fn lay(
     spent: u64,
     count: u32,
 ) -> usize
-    requires { ⌜ Stack (at (now from)) (at (now first)) (at (now step)) count m ⌝ }
+    requires { ⌜ Stack (each (now from)) (each (now first)) (each (now step)) count m ⌝ }
     requires { ⌜ (m < length (now from)) × (m < length (now first)) × (m < length (now step)) × (1 ≤ count) ⌝ }
-    requires { ⌜ (at (now step) (m - 1) < cost → spent ≤ cost * past) ⌝ }
-    ensures { λ r. ⌜ Laid (at (now (from .entry))) (at (now (first .entry))) (at (now (step .entry))) (at (now (from .exit))) (at (now (first .exit))) (at (now (step .exit))) count m cost past spent r ⌝ }
+    requires { ⌜ (each (now step) (m - 1) < cost → spent ≤ cost * past) ⌝ }
+    ensures { λ r. ⌜ Laid (each (now (from .entry))) (each (now (first .entry))) (each (now (step .entry))) (each (now (from .exit))) (each (now (first .exit))) (each (now (step .exit))) count m cost past spent r ⌝ }
 {
     if cost <= step[m - 1] {
         return m;
@@ -104,7 +105,7 @@ pub(crate) fn runs(
     requires { ⌜ (i < n) × (n ≤ length (now loads)) × (n ≤ length (now costs)) ⌝ }
     requires { ⌜ (n ≤ length (now from)) × (n ≤ length (now first)) × (n ≤ length (now step)) ⌝ }
     ensures { λ r. ⌜ r ≤ n ⌝ }
-    ensures { λ r. ⌜ Runs (at (now (from .exit))) (at (now (first .exit))) (at (now (step .exit))) count r (startBack (oneWay n (now (loads .entry)) (now (costs .entry))) i) ⌝ }
+    ensures { λ r. ⌜ Runs (each (now (from .exit))) (each (now (first .exit))) (each (now (step .exit))) count r (startBack (oneWay n (now (loads .entry)) (now (costs .entry))) i) ⌝ }
 {
     put(from, first, step, 0, 0, costs[i], 0);
     let mut m = 1;

@@ -5,8 +5,8 @@ use mathlib.Core.Logic.{_⊎_}
 use Prim.Native.Nat.{ℕ, zero, suc, _-_, _≤_, _<_}
 use lib.Dec.{eqb}
 use lib.IntN.{ℤ, pos, _-ℤ_, natAbs}
-use lib.ListN.{getD}
 use Rattle.ring.specs.Numbers.{pick, sum}
+use Rattle.ring.specs.Lists.{each, eachℤ}
 
 -- A ring as natural numbers: n boards, board i with the load `load i` that is to become `after i`, and link i from board i to the
 -- next with the cost `cost i`, the ticks for one item either way.
@@ -24,7 +24,7 @@ ringOf kind n load surplus cost =
 
 -- the same of lists of them
 abbrev pub ringIn : ℕ → ℕ → List ℕ → List ℤ → List ℕ → Ring
-ringIn kind n loads surpluses costs = ringOf kind n (λ i. getD loads i 0) (λ i. getD surpluses i (pos 0)) (λ i. getD costs i 0)
+ringIn kind n loads surpluses costs = ringOf kind n (each loads) (eachℤ surpluses) (each costs)
 
 module _ (r : Ring) where
   -- the board after board i, (i + 1) mod n; link i leads to it

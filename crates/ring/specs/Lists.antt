@@ -1,8 +1,9 @@
--- What holds of each element of a list and of each two, and how many pass a test.
+-- What holds of each element of a list and of each two, how many pass a test, and lists given place by place.
 use mathlib.Core.List.{List, [], _∷_, _++_}
 use Prim.Native.Nat.{ℕ, zero, suc, _+_}
 use mathlib.Core.Bool.{Bool}
-use lib.ListN.{set}
+use lib.IntN.{ℤ, pos}
+use lib.ListN.{getD, set}
 use Rattle.ring.specs.Numbers.{one-if}
 
 -- each of a list
@@ -37,3 +38,10 @@ upTo g k = joined (λ i. g i ∷ []) k
 unfoldable pub fill : {A : Type 0} → (ℕ → A) → ℕ → List A → List A
 fill g zero xs = xs
 fill g (suc k) xs = set (fill g k xs) k (g k)
+
+-- the elements of a list of numbers, by place
+abbrev pub each : List ℕ → ℕ → ℕ
+each xs i = getD xs i 0
+
+abbrev pub eachℤ : List ℤ → ℕ → ℤ
+eachℤ xs i = getD xs i (pos 0)

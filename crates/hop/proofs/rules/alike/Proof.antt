@@ -3,7 +3,8 @@ use mathlib.Core.Path.{_≡_, sym, _∙_}
 use Prim.Native.Nat.{_≤_, _-_}
 use native.Mathlib.Omega.{arith}
 use denote.Ref.{now}
-use Rattle.hop.specs.Refusals.{each, eachℤ, costFault}
+use Rattle.ring.specs.Lists.{each, eachℤ}
+use Rattle.hop.specs.Refusals.{costFault}
 use Rattle.hop.proofs.First.{Sound, none}
 use Rattle.hop.proofs.Ends.{any-cost, one-cost, other-cost, same-cost}
 use borrow.Author.Needs.{needs}

@@ -6,7 +6,8 @@ use denote.Ref.{now}
 use mir.Syntax.{w16}
 use mir.Facts.{toZ-ofZ}
 use Rattle.ring.specs.Limits.{boardOf, faultOf}
-use Rattle.hop.specs.Refusals.{each, eachℤ, boardFault, ringCheck}
+use Rattle.ring.specs.Lists.{each, eachℤ}
+use Rattle.hop.specs.Refusals.{boardFault, ringCheck}
 use Rattle.hop.proofs.First.{Sound, none, more, passed, stopped}
 use Rattle.hop.specs.declared.Check.the-variants.{Refused}
 use borrow.Author.Needs.{needs}

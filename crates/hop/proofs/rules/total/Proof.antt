@@ -3,7 +3,7 @@ use borrow.Author.Needs.{needs}
 use mathlib.Core.Path.{_≡_}
 use Prim.Native.Nat.{_≤_, _-_}
 use native.Mathlib.Omega.{arith}
-use Rattle.hop.specs.Refusals.{eachℤ}
+use Rattle.ring.specs.Lists.{eachℤ}
 use Rattle.hop.proofs.SignedSum.{Summed, wide, none, fits, more, whole}
 use Rattle.hop.proofs.rules.total.Statement.{statement}
 use Rattle.hop.proofs.rules.total.Tie as tie

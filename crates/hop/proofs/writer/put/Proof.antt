@@ -10,8 +10,7 @@ use mir.Syntax.{w16}
 use mir.Facts.{toZ-ofZ}
 use borrow.Rule.Slice.PartMut.{midOf}
 use lib.ListN.{length, drop}
-use Rattle.ring.specs.Lists.{joined}
-use Rattle.hop.specs.Refusals.{each, eachℤ}
+use Rattle.ring.specs.Lists.{each, eachℤ, joined}
 use Rattle.hop.specs.Read.{jobLength}
 use Rattle.hop.specs.Write.{headBytes, recordBytes, boardBytes, jobBytes}
 use Rattle.hop.proofs.Grow.{Begins}

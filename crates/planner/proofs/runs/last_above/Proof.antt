@@ -2,13 +2,13 @@
 use borrow.Author.Needs.{needs}
 use Prim.Native.Nat.{ℕ, _+_, _*_, _-_, _≤_, _<_}
 use native.Mathlib.Omega.{arith}
-use Rattle.planner.specs.Runs.{at}
+use Rattle.ring.specs.Lists.{each}
 use Rattle.planner.proofs.RunLines.{not-first, one-fewer}
 use Rattle.planner.proofs.runs.last_above.Statement.{statement}
 use Rattle.planner.proofs.runs.last_above.Tie as tie
 
 abbrev Inv-loop : tie.InvT-loop
-Inv-loop from first m cost lag j₀ j = (j < m) × ((e : ℕ) → j < e → e < m → at first e + lag ≤ cost * at from e)
+Inv-loop from first m cost lag j₀ j = (j < m) × ((e : ℕ) → j < e → e < m → each first e + lag ≤ cost * each from e)
 
 abbrev μ-loop : tie.MeasureT-loop
 μ-loop from first m cost lag j₀ j = j
@@ -46,14 +46,14 @@ returns c =
 again : (c : tie.Else1 Inv-loop μ-loop)
     → let l = c .before .before .before .before in
     let a = l .before .before .before .args in
-    (1 ≤ l .loop .j) × ((e : ℕ) → l .loop .j - 1 < e → e < a .m → at (a .first .now) e + a .lag ≤ a .cost * at (a .from .now) e)
+    (1 ≤ l .loop .j) × ((e : ℕ) → l .loop .j - 1 < e → e < a .m → each (a .first .now) e + a .lag ≤ a .cost * each (a .from .now) e)
 again c =
     let l = c .before .before .before .before in
     let s = l .before .before .before in
     let a = s .args in
-    let low : at (a .first .now) (l .loop .j) + a .lag ≤ a .cost * at (a .from .now) (l .loop .j) = omega (arith, c .before .before .link-time .ensures) in (
-      not-first (at (a .from .now)) (at (a .first .now)) (a .m) (a .cost) (a .lag) (l .loop .j) low (s .pre .1 .0) (omega arith),
-      one-fewer (at (a .from .now)) (at (a .first .now)) (a .m) (a .cost) (a .lag) (l .loop .j) low (l .loop .inv .1),
+    let low : each (a .first .now) (l .loop .j) + a .lag ≤ a .cost * each (a .from .now) (l .loop .j) = omega (arith, c .before .before .link-time .ensures) in (
+      not-first (each (a .from .now)) (each (a .first .now)) (a .m) (a .cost) (a .lag) (l .loop .j) low (s .pre .1 .0) (omega arith),
+      one-fewer (each (a .from .now)) (each (a .first .now)) (a .m) (a .cost) (a .lag) (l .loop .j) low (l .loop .inv .1),
     )
 
 sub-j-2 : tie.Need-sub-j-2 Inv-loop μ-loop

@@ -4,7 +4,7 @@ use Prim.Native.Nat.{ℕ, suc, _+_, _*_, _-_, _≤_, _<_}
 use native.Mathlib.Omega.{arith}
 use native.Mathlib.Nat.{pos-of-ne-zero}
 use lib.ListN.{length}
-use Rattle.planner.specs.Runs.{at}
+use Rattle.ring.specs.Lists.{each}
 use Rattle.planner.specs.RunSteps.{wide}
 use Rattle.planner.proofs.RunLines.{most-steep, Place, above-place}
 use Rattle.planner.proofs.RunLay.{narrow, put-list, laid-flat, laid-whole, laid-same, laid-over}
@@ -13,7 +13,7 @@ use Rattle.planner.proofs.runs.lay.Statement.{statement}
 use Rattle.planner.proofs.runs.lay.Tie as tie
 
 -- the start of a run fits 48 bits
-small : (c : tie.After-slice-known3) (e : ℕ) → let a = c .before .before .before .args in e < a .m → at (a .first .now) e < wide
+small : (c : tie.After-slice-known3) (e : ℕ) → let a = c .before .before .before .args in e < a .m → each (a .first .now) e < wide
 small c e h =
     let s = c .before .before .before in
     let f = c .before .before .slice-known .given e in
@@ -21,7 +21,7 @@ small c e h =
     omega (
       arith,
       s .pre .0 .small e h,
-      narrow (at (s .args .step .now) e) (at (s .args .from .now) e) (omega arith) (omega arith),
+      narrow (each (s .args .step .now) e) (each (s .args .from .now) e) (omega arith) (omega arith),
     )
 
 -- the line's lag, which fits them too
@@ -50,7 +50,7 @@ returns : tie.Need-returns
 returns c =
     let s = c .before .before .before .before .before in
     let a = s .args in
-    laid-flat (at (a .from .now)) (at (a .first .now)) (at (a .step .now)) (a .count) (a .m) (a .cost) (a .past) (a .spent) (s .pre .0) (c .if1 .taken)
+    laid-flat (each (a .from .now)) (each (a .first .now)) (each (a .step .now)) (a .count) (a .m) (a .cost) (a .past) (a .spent) (s .pre .0) (c .if1 .taken)
 
 link-time-requires : tie.Need-link-time-requires
 link-time-requires c κs = search needs
@@ -77,9 +77,9 @@ returns-2 c =
     let b = l .before .before in
     let s = b .before .before .before .before .before in
     let a = s .args in
-    laid-whole (at (a .from .now)) (at (a .first .now)) (at (a .step .now)) (a .count) (a .m) (a .cost) (a .past) (a .spent) (s .pre .0) (b .if1 .left)
+    laid-whole (each (a .from .now)) (each (a .first .now)) (each (a .step .now)) (a .count) (a .m) (a .cost) (a .past) (a .spent) (s .pre .0) (b .if1 .left)
     (omega (arith, lagging l .0, p .before .before .before .before .if2 .taken))
-    (at (p .put .last .0)) (at (p .put .last .1 .0)) (at (p .put .last .1 .1 .0)) (omega arith)
+    (each (p .put .last .0)) (each (p .put .last .1 .0)) (each (p .put .last .1 .1 .0)) (omega arith)
     (put-list (a .from .now) (p .put .last .0) 0 0 0 refl (omega arith) (p .put .ensures .0))
     (put-list (a .first .now) (p .put .last .1 .0) 0 0 (a .cost * 0 - 0) refl (omega arith) (p .put .ensures .1 .0))
     (put-list (a .step .now) (p .put .last .1 .1 .0) 0 0 (a .cost) refl (omega arith) (p .put .ensures .1 .1))
@@ -116,7 +116,7 @@ overtakes-requires c κs =
     let k = l .before .before .before .before in
     let s = k .before .before .before in
     let a = s .args in
-    let h = most-steep (at (a .from .now)) (at (a .first .now)) (at (a .step .now)) (a .count) (a .m) (s .pre .0) (j .last-above .result) (j .last-above .ensures .here) in
+    let h = most-steep (each (a .from .now)) (each (a .first .now)) (each (a .step .now)) (a .count) (a .m) (s .pre .0) (j .last-above .result) (j .last-above .ensures .here) in
     (omega (arith, l .before .before .if1 .left), j .last-above .ensures .begins, small k (j .last-above .result) (j .last-above .ensures .here), lagging l .2)
 
 -- there is a place for the next run
@@ -135,14 +135,14 @@ placed : (o : tie.After-overtakes)
     → let j = o .before .before .before .before in
     let l = j .before .before .before .before in
     let a = l .before .before .before .before .before .before .before .args in
-    Place (at (a .from .now)) (at (a .first .now)) (at (a .step .now)) (a .m) (a .cost) (l .before .link-time .result .0 - a .spent) (suc (j .last-above .result)) (o .overtakes .result)
+    Place (each (a .from .now)) (each (a .first .now)) (each (a .step .now)) (a .m) (a .cost) (l .before .link-time .result .0 - a .spent) (suc (j .last-above .result)) (o .overtakes .result)
 placed o =
     let j = o .before .before .before .before in
     let l = j .before .before .before .before in
     let b = l .before .before in
     let s = b .before .before .before .before .before in
     let a = s .args in
-    above-place (at (a .from .now)) (at (a .first .now)) (at (a .step .now)) (a .count) (a .m) (a .cost) (l .before .link-time .result .0 - a .spent)
+    above-place (each (a .from .now)) (each (a .first .now)) (each (a .step .now)) (a .count) (a .m) (a .cost) (l .before .link-time .result .0 - a .spent)
     (j .last-above .result) (o .overtakes .result) (s .pre .0) (b .if1 .left) (j .last-above .ensures) (o .overtakes .ensures)
 
 same-length-4 : tie.Need-same-length-4
@@ -159,7 +159,7 @@ returns-3 c =
     let b = l .before .before in
     let s = b .before .before .before .before .before in
     let a = s .args in
-    laid-same (at (a .from .now)) (at (a .first .now)) (at (a .step .now)) (a .count) (a .m) (a .cost) (a .past) (a .spent) (s .pre .0) (b .if1 .left)
+    laid-same (each (a .from .now)) (each (a .first .now)) (each (a .step .now)) (a .count) (a .m) (a .cost) (a .past) (a .spent) (s .pre .0) (b .if1 .left)
     (l .before .link-time .result .0 - a .spent) (lagging l .0) (j .last-above .result) (o .overtakes .result) (j .last-above .ensures) (o .overtakes .ensures)
     (c .if3 .taken)
 
@@ -204,9 +204,9 @@ returns-4 c =
     let q : suc (suc k) ≡ k + 2 = omega arith in
     let r : k + 1 ≡ suc k = omega arith in
     rw q at
-    (laid-over (at (a .from .now)) (at (a .first .now)) (at (a .step .now)) (a .count) (a .m) (a .cost) (a .past) (a .spent) (s .pre .0) (b .if1 .left)
+    (laid-over (each (a .from .now)) (each (a .first .now)) (each (a .step .now)) (a .count) (a .m) (a .cost) (a .past) (a .spent) (s .pre .0) (b .if1 .left)
     lag (lagging l .0) k x (j .last-above .ensures) (o .overtakes .ensures)
-    (at (p .put2 .last .0)) (at (p .put2 .last .1 .0)) (at (p .put2 .last .1 .1 .0)) (p .before .before .before .before .if3 .left)
+    (each (p .put2 .last .0)) (each (p .put2 .last .1 .0)) (each (p .put2 .last .1 .1 .0)) (p .before .before .before .before .if3 .left)
     (put-list (a .from .now) (p .put2 .last .0) (k + 1) (suc k) x r (room j .0) (p .put2 .ensures .0))
     (put-list (a .first .now) (p .put2 .last .1 .0) (k + 1) (suc k) (a .cost * x - lag) r (room j .1) (p .put2 .ensures .1 .0))
     (put-list (a .step .now) (p .put2 .last .1 .1 .0) (k + 1) (suc k) (a .cost) r (room j .2) (p .put2 .ensures .1 .1)))

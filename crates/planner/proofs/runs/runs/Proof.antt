@@ -5,7 +5,8 @@ use mathlib.Core.Logic.{_⊎_, inl, inr}
 use Prim.Native.Nat.{_+_, _*_, _-_, _≤_, _<_}
 use native.Mathlib.Omega.{arith}
 use lib.ListN.{length}
-use Rattle.planner.specs.Runs.{at, oneWay, startBack, Runs}
+use Rattle.ring.specs.Lists.{each}
+use Rattle.planner.specs.Runs.{oneWay, startBack, Runs}
 use Rattle.planner.specs.RunSteps.{Stack}
 use Rattle.planner.proofs.RunLay.{put-list}
 use Rattle.planner.proofs.RunWalk.{Walk, reached, turn, settled, one-stack, begin}
@@ -22,8 +23,8 @@ Inv-loop loads costs n i count from₀ first₀ step₀ m₀ past₀ spent₀ l�
     × (length from ≡ length from₀)
     × (length first ≡ length first₀)
     × (length step ≡ length step₀)
-    × Stack (at from) (at first) (at step) count m
-    × Walk (oneWay n loads costs) i count (at from) (at first) (at step) m (n - k) l past spent
+    × Stack (each from) (each first) (each step) count m
+    × Walk (oneWay n loads costs) i count (each from) (each first) (each step) m (n - k) l past spent
 
 abbrev μ-loop : tie.MeasureT-loop
 μ-loop loads costs n i count from₀ first₀ step₀ m₀ past₀ spent₀ l₀ k₀ from first step m past spent l k =
@@ -37,8 +38,8 @@ known : (l : tie.At-loop Inv-loop μ-loop)
     → let a = start l .args in
     (l .loop .l < length (a .loads .now))
     × (l .loop .l < length (a .costs .now))
-    × (at (a .loads .now) (l .loop .l) ≤ 4095)
-    × (at (a .costs .now) (l .loop .l) ≤ 8000)
+    × (each (a .loads .now) (l .loop .l) ≤ 4095)
+    × (each (a .costs .now) (l .loop .l) ≤ 8000)
     × (a .n ≤ 128)
     × (l .loop .k ≤ a .n)
     × (l .loop .m ≤ l .loop .k)
@@ -94,9 +95,9 @@ loop-holds c =
     let a = s .args in
     let q = c .before .before .before .before .before .before .before .before .put in
     let f = put-list (a .from .now) (q .last .0) 0 0 0 refl (omega arith) (q .ensures .0) in
-    let v = put-list (a .first .now) (q .last .1 .0) 0 0 (at (a .costs .now) (a .i) * 0 - 0) refl (omega arith) (q .ensures .1 .0) in
-    let t = put-list (a .step .now) (q .last .1 .1 .0) 0 0 (at (a .costs .now) (a .i)) refl (omega arith) (q .ensures .1 .1) in
-    let z : at (q .last .1 .0) 0 ≡ 0 = omega (arith, v .at) in
+    let v = put-list (a .first .now) (q .last .1 .0) 0 0 (each (a .costs .now) (a .i) * 0 - 0) refl (omega arith) (q .ensures .1 .0) in
+    let t = put-list (a .step .now) (q .last .1 .1 .0) 0 0 (each (a .costs .now) (a .i)) refl (omega arith) (q .ensures .1 .1) in
+    let z : each (q .last .1 .0) 0 ≡ 0 = omega (arith, v .at) in
     let r = oneWay (a .n) (a .loads .now) (a .costs .now) in (
       omega arith,
       omega (arith, s .pre .0 .boards),
@@ -106,8 +107,8 @@ loop-holds c =
       refl,
       refl,
       refl,
-      one-stack (at (q .last .0)) (at (q .last .1 .0)) (at (q .last .1 .1 .0)) (f .at) z (a .count),
-      begin (at (q .last .0)) (at (q .last .1 .0)) (at (q .last .1 .1 .0)) (f .at) z (a .count) r (s .pre .0) (a .i) (s .pre .1 .0 .0) (t .at)
+      one-stack (each (q .last .0)) (each (q .last .1 .0)) (each (q .last .1 .1 .0)) (f .at) z (a .count),
+      begin (each (q .last .0)) (each (q .last .1 .0)) (each (q .last .1 .1 .0)) (f .at) z (a .count) r (s .pre .0) (a .i) (s .pre .1 .0 .0) (t .at)
           (a .n - 1) (c .link-before .result) (omega (arith, s .pre .0 .boards))
           (c .link-before .ensures),
     )
@@ -125,12 +126,12 @@ same-length-3 c = search needs
 ended : (l : tie.At-loop Inv-loop μ-loop)
     → let a = start l .args in
     (a .count ≤ l .loop .past) ⊎ (a .n - l .loop .k ≡ 0)
-    → Runs (at (l .loop .from)) (at (l .loop .first)) (at (l .loop .step)) (a .count) (l .loop .m) (startBack (oneWay (a .n) (a .loads .now) (a .costs .now)) (a .i))
+    → Runs (each (l .loop .from)) (each (l .loop .first)) (each (l .loop .step)) (a .count) (l .loop .m) (startBack (oneWay (a .n) (a .loads .now) (a .costs .now)) (a .i))
 ended l end =
     let s = start l in
     let a = s .args in
     let i = l .loop .inv in
-    settled (oneWay (a .n) (a .loads .now) (a .costs .now)) (s .pre .0) (a .i) (a .count) (at (l .loop .from)) (at (l .loop .first)) (at (l .loop .step))
+    settled (oneWay (a .n) (a .loads .now) (a .costs .now)) (s .pre .0) (a .i) (a .count) (each (l .loop .from)) (each (l .loop .first)) (each (l .loop .step))
     (l .loop .m) (i .8) (a .n - l .loop .k) (l .loop .l) (l .loop .past) (l .loop .spent) (i .9) end
 
 returns : tie.Need-returns Inv-loop μ-loop
@@ -159,7 +160,7 @@ lay-requires c κs =
       i .8,
       (
         (omega (arith, b .before .loop-test .taken), omega (arith, b .before .loop-test .taken), omega (arith, b .before .loop-test .taken), omega (arith, b .if1 .left)),
-        reached (oneWay (a .n) (a .loads .now) (a .costs .now)) (s .pre .0) (a .i) (a .count) (at (l .loop .from)) (at (l .loop .first)) (at (l .loop .step))
+        reached (oneWay (a .n) (a .loads .now) (a .costs .now)) (s .pre .0) (a .i) (a .count) (each (l .loop .from)) (each (l .loop .first)) (each (l .loop .step))
             (l .loop .m) (i .8) (a .n - l .loop .k) (l .loop .l) (l .loop .past) (l .loop .spent) (i .9) (b .if1 .left),
       ),
     )
@@ -205,9 +206,9 @@ loop-again c =
       y .lay .kept .1 .0 ∙ i .6,
       y .lay .kept .1 .1 .0 ∙ i .7,
       t .stack,
-      turn r (s .pre .0) (a .i) (a .count) (at (l .loop .from)) (at (l .loop .first)) (at (l .loop .step)) (l .loop .m) (i .8)
+      turn r (s .pre .0) (a .i) (a .count) (each (l .loop .from)) (each (l .loop .first)) (each (l .loop .step)) (l .loop .m) (i .8)
           (a .n - l .loop .k) (l .loop .l) (l .loop .past) (l .loop .spent) (i .9) (b .if1 .left)
-          (at (y .lay .last .0)) (at (y .lay .last .1 .0)) (at (y .lay .last .1 .1 .0)) (y .lay .result) (a .n - (l .loop .k + 1)) (c .link-before2 .result)
+          (each (y .lay .last .0)) (each (y .lay .last .1 .0)) (each (y .lay .last .1 .1 .0)) (y .lay .result) (a .n - (l .loop .k + 1)) (c .link-before2 .result)
           (omega (arith, b .before .loop-test .taken)) (c .link-before2 .ensures) t,
     )
 
