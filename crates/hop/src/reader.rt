@@ -76,7 +76,7 @@ fn head(s: &[u8]) -> Check
     mark(s)
 }
 
-// Refusals 7 to 11 of the numbers that one job holds, or the ring.
+// Refusals 7 to 11 of the numbers that one job holds and lends together, or the ring.
 fn boards_held<'a>(
     kind: u8,
     n: u8,

@@ -37,7 +37,6 @@ use Rattle.loads.proofs.Asked.{written}
 -- m records in a buffer, for n boards of these loads and costs: with what was counted of them, `whole` holds the loads
 pub record Told (n : ℕ) (loads costs buf : List ℕ) (m : ℕ) (whole : List ℕ → List ℕ) (c : Counts) : Type 0 where
   pub few : n ≤ 128
-  pub loads-long : length loads ≡ 128
   pub costs-long : length costs ≡ 128
   pub placed : recordPlace m ≤ length buf
   pub linked : (i : ℕ) → i < m → getD buf (recordPlace i) 0 < n
@@ -65,7 +64,6 @@ module _ (kind n : ℕ) (loads : List ℕ) (surpluses : List ℤ) (costs : List 
       rw (plan-read r fit rest)
       (record {
         few = few;
-        loads-long = ll;
         costs-long = cl;
         placed = simp (length-append, head-long, records-long, as-many r) (omega arith);
         linked = link-read r fit rest (valid r ok .allowed);

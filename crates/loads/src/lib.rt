@@ -131,9 +131,7 @@ pub fn loads(s: &[u8], tick: u32, buf: &mut [u8], list: &mut [u32]) -> Planned
     let Planned::Plan { moves, .. } = planned else {
         return planned;
     };
-    let costs = job.costs;
-    let counts = counts_by(buf, moves, boards, &costs, tick);
-    let loads = job.loads;
-    tell(boards, &loads, counts, list);
+    let counts = counts_by(buf, moves, boards, &job.costs, tick);
+    tell(boards, &job.loads, counts, list);
     planned
 }

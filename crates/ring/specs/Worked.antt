@@ -72,7 +72,7 @@ holds r (tightest i) = eqb (tight r) i
 abbrev pub allHold : List Row → Bool
 allHold rows = every (map (λ (w : Row). every (map (holds (w .ring)) (w .says))) rows)
 
--- −1 − k, to write the table with
+-- −k, to write the table with
 abbrev pub minus : ℕ → ℤ
 minus zero = pos 0
 minus (suc k) = negsuc k

@@ -95,21 +95,15 @@ returns-3 c =
     let a = p .before .before .before .before .before .before .before .before .before .before .args in
     answers (jobOf (a .s .now)) (a .tick) (a .buf .now) (a .list .now) (listed (p .before .before)) _ (sym (p .plan2 .ensures .0) ∙ c .enum-told2 .given .1) (p .plan2 .ensures .0) (p .plan2 .ensures .1) refl
 
-slice-aggregate-counts-by : tie.Need-slice-aggregate-counts-by
-slice-aggregate-counts-by c = search needs
-
 counts-by-requires : tie.Need-counts-by-requires
-counts-by-requires c κs = let t = planned (c .before .before .before) in ((t .few, omega arith, t .placed), t .linked)
-
-slice-aggregate-tell : tie.Need-slice-aggregate-tell
-slice-aggregate-tell c = sym (planned (c .before .before .before .before .before .before) .loads-long)
+counts-by-requires c κs = let t = planned (c .before .before .before .before) in ((t .few, omega arith, t .placed), t .linked)
 
 tell-requires : tie.Need-tell-requires
 tell-requires c κs =
-    let k = c .before .before .before .before .before .before .before in
+    let k = c .before .before .before .before .before .before .before .before .before in
     let t = planned k in
     let all : k .before .before .before .before .before .before .before .before .before .answer .given .0 .1 .0 ≤ length (k .before .before .before .before .before .before .before .before .before .before .before .before .before .before .before .args .list .now) = k .before .before .before .before .before .before .before .if1 .left in
-    (omega arith, omega arith, omega arith, rw (c .before .before .before .counts-by .ensures) (t .covered))
+    (omega arith, omega arith, omega arith, rw (c .before .before .before .before .counts-by .ensures) (t .covered))
 
 same-length-3 : tie.Need-same-length-3
 same-length-3 c = search needs
@@ -119,12 +113,12 @@ same-length-4 c = search needs
 
 returns-4 : tie.Need-returns-4
 returns-4 c =
-    let k = c .before .before .before .before .before .before .before .before .before .before in
+    let k = c .before .before .before .before .before .before .before .before .before .before .before .before in
     let p = k .before .before .before .before .before in
     let a = p .before .before .before .before .before .before .before .before .before .before .args in
     let is = sym (p .plan2 .ensures .0) ∙ k .before .planned .given .1 in
     answers (jobOf (a .s .now)) (a .tick) (a .buf .now) (a .list .now) (listed (p .before .before)) _ is (sym (k .before .planned .given .1) ∙ p .plan2 .ensures .0) (p .plan2 .ensures .1)
-    (c .before .before .tell .ensures ∙ rw (c .before .before .before .before .before .before .counts-by .ensures) (planned k .told (a .list .now)))
+    (c .before .before .tell .ensures ∙ rw (c .before .before .before .before .before .before .before .counts-by .ensures) (planned k .told (a .list .now)))
 
 pub loads-spec : {M : Type 1} → statement M
 loads-spec =
@@ -145,9 +139,7 @@ loads-spec =
     enum-told-2
     same-length-2
     returns-3
-    slice-aggregate-counts-by
     counts-by-requires
-    slice-aggregate-tell
     tell-requires
     same-length-3
     same-length-4
