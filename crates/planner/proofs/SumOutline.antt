@@ -18,7 +18,7 @@ use Rattle.planner.specs.declared.sums.Span.{Span}
 use Rattle.planner.specs.declared.sums.Tally.{Tally}
 use Rattle.planner.specs.declared.sums.Outline.{Outline}
 use Rattle.planner.specs.Outline.{BoardHeld, Lent, carriesIn, spanOf, tallyOf, outlineOf}
-use Rattle.planner.proofs.SumSame.{span-is, carries-is, tally-is}
+use Rattle.planner.proofs.SumSame.{carries-is, tally-is}
 
 pub board-held : {kind n : ℕ} {loads : List ℕ} {surpluses : List ℤ} {costs : List ℕ} → Lent kind n loads surpluses costs → (i : ℕ) → i < n → BoardHeld loads surpluses i
 board-held l i h =
@@ -41,10 +41,7 @@ module _ (r : Ring) (ok : Accepted r) (was xs : List ℕ) (room : r .n ≤ lengt
   pub carries-few : (i : ℕ) → i < r .n → carriesIn xs (offset r) i ≤ 128 * mostLoad
   carries-few i h = omega (arith, carries-is r (omega arith) xs level-at i h, carries-most r ok i h, items-most r ok)
 
-  module _ (s : Span) (span : s ≡ spanOf (r .n) xs) where
-    ends : _≡_ {A = Span} s (record { low = low r; high = high r })
-    ends = span ∙ span-is r (omega arith) xs level-at
-
+  module _ (s : Span) (ends : s ≡ spanOf r) where
     pub spread-most : (s .low ≤ s .high) × (s .high - s .low ≤ 128 * mostLoad)
     spread-most = rw ends (omega (arith, low-le r ok 0 (omega arith), le-high r ok 0 (omega arith), spread r ok, items-most r ok))
 

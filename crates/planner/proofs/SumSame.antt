@@ -5,41 +5,32 @@ use Prim.Native.Nat.{ℕ, zero, suc, _*_, _-_, _≤_, _<_}
 use native.Mathlib.Omega.{arith}
 use lib.Dec.{ltb}
 use lib.ListN.{getD}
-use Rattle.ring.specs.Numbers.{pick, sum, least, greatest, peak}
+use Rattle.ring.specs.Numbers.{pick, sum, greatest, peak}
 use Rattle.ring.specs.Boards.{Ring}
-use Rattle.ring.specs.Plan.{level, low, high, offset, ahead, behind, carries, moves, tight}
-use Rattle.planner.specs.declared.sums.Span.{Span}
+use Rattle.ring.specs.Plan.{level, high, offset, ahead, behind, carries, moves, tight}
 use Rattle.planner.specs.declared.sums.Tally.{Tally}
-use Rattle.planner.specs.Outline.{spanOf, tallyOf, carriesIn}
+use Rattle.planner.specs.Outline.{tallyOf, carriesIn}
 use Rattle.ring.proofs.Sums.{sum-eq, peak-is}
 
--- functions that agree up to k have the same least, greatest and peak there
+-- functions that agree up to k have the same greatest and the same peak there
 module _ (f g : ℕ → ℕ) where
   pub record Same (k : ℕ) : Type 0 where
-    pub low : least f k ≡ least g k
     pub high : greatest f k ≡ greatest g k
     pub top : peak f k ≡ peak g k
 
   pub same : (k : ℕ) → ((i : ℕ) → i ≤ k → f i ≡ g i) → Same k
-  unfolding least greatest peak
-  same zero h = record { low = h 0 (omega arith); high = h 0 (omega arith); top = refl }
+  unfolding greatest peak
+  same zero h = record { high = h 0 (omega arith); top = refl }
   same (suc k) h =
       let s = same k (λ i l. h i (omega arith)) in
       let e = h (suc k) (omega arith) in
       let m = peak-is f k .most ∙ s .high ∙ sym (peak-is g k .most) in
       record {
-        low = omega (arith, s .low);
         high = omega (arith, s .high);
         top = λ t. pick (ltb (m t) (e t)) (suc k) (s .top t);
       }
 
 module _ (r : Ring) (some : 1 ≤ r .n) (xs : List ℕ) (is : (i : ℕ) → i < r .n → getD xs i 0 ≡ level r i) where
-  pub span-is : _≡_ {A = Span} (spanOf (r .n) xs) (record { low = low r; high = high r })
-  unfolding low high
-  span-is =
-      let s = same (λ i. getD xs i 0) (level r) (r .n - 1) (λ i h. is i (omega arith)) in
-      λ t. record { low = s .low t; high = s .high t }
-
   pub carries-is : (i : ℕ) → i < r .n → carriesIn xs (offset r) i ≡ carries r i
   unfolding ahead behind
   carries-is i h = omega (arith, is i h)

@@ -1,18 +1,14 @@
--- The least, the greatest and the lowest place of the greatest, from the numbers below a bound one after the other. Assumes nothing.
+-- The greatest and the lowest place of the greatest, from the numbers below a bound one after the other. Assumes nothing.
 use mathlib.Core.Path.{_≡_, refl, ap, _∙_, sym}
-use Prim.Native.Nat.{ℕ, zero, suc, _-_, _≤_, min, max}
+use Prim.Native.Nat.{ℕ, zero, suc, _-_, _≤_, max}
 use native.Mathlib.Omega.{arith}
 use lib.Dec.{ltb}
 use borrow.Author.Tests.{lt-ltb}
-use Rattle.ring.specs.Numbers.{pick, least, greatest, peak}
+use Rattle.ring.specs.Numbers.{pick, greatest, peak}
 use Rattle.ring.proofs.Sums.{peak-is}
 
 module _ (g : ℕ → ℕ) where
-  -- of the numbers below k, with g 0 or with 0 where there are none
-  unfoldable pub lowest : ℕ → ℕ
-  lowest zero = g 0
-  lowest (suc k) = min (lowest k) (g k)
-
+  -- of the numbers below k, and 0 where there are none
   unfoldable pub highest : ℕ → ℕ
   highest zero = 0
   highest (suc k) = max (highest k) (g k)
@@ -20,11 +16,6 @@ module _ (g : ℕ → ℕ) where
   unfoldable pub summit : ℕ → ℕ
   summit zero = 0
   summit (suc k) = pick (ltb (highest k) (g k)) k (summit k)
-
-  lowest-suc : (k : ℕ) → lowest (suc k) ≡ least g k
-  unfolding lowest least
-  lowest-suc zero = omega arith
-  lowest-suc (suc k) = omega (arith, lowest-suc k)
 
   highest-suc : (k : ℕ) → highest (suc k) ≡ greatest g k
   unfolding highest greatest
@@ -45,9 +36,6 @@ module _ (g : ℕ → ℕ) where
   module _ (n : ℕ) (some : 1 ≤ n) where
     whole : suc (n - 1) ≡ n
     whole = omega arith
-
-    pub lowest-is : lowest n ≡ least g (n - 1)
-    lowest-is = ap lowest (sym whole) ∙ lowest-suc (n - 1)
 
     pub highest-is : highest n ≡ greatest g (n - 1)
     highest-is = ap highest (sym whole) ∙ highest-suc (n - 1)

@@ -5,10 +5,10 @@ use mathlib.Core.List.{List, []}
 use Prim.Native.Nat.{ℕ, _+_, _*_, _-_, _≤_, _<_}
 use lib.IntN.{ℤ, pos, _-ℤ_}
 use lib.ListN.{length}
-use Rattle.ring.specs.Numbers.{sum, least, greatest, peak}
+use Rattle.ring.specs.Numbers.{sum, greatest, peak}
 use Rattle.ring.specs.Lists.{each, eachℤ}
 use Rattle.ring.specs.Boards.{Ring, Accepted, ringIn, prev, mostLoad}
-use Rattle.ring.specs.Plan.{offset, rounds, moves, tight, finishOf}
+use Rattle.ring.specs.Plan.{low, high, offset, rounds, moves, tight, finishOf}
 use Rattle.planner.specs.declared.Traffic.{Traffic}
 use Rattle.planner.specs.declared.sums.Span.{Span}
 use Rattle.planner.specs.declared.sums.Tally.{Tally}
@@ -35,9 +35,9 @@ pub record Lent (kind n : ℕ) (loads : List ℕ) (surpluses : List ℤ) (costs 
   pub costs-long : n ≤ length costs
   pub after-is : (i : ℕ) → i < n → pos (boardsIn n loads surpluses .after i) ≡ pos (each loads i) -ℤ eachℤ surpluses i
 
--- the least and the greatest of the first n of a list of levels
-abbrev pub spanOf : ℕ → List ℕ → Span
-spanOf n levels = record { low = least (each levels) (n - 1); high = greatest (each levels) (n - 1) }
+-- the least and the greatest level of a ring
+abbrev pub spanOf : Ring → Span
+spanOf r = record { low = low r; high = high r }
 
 -- |a − b|; of a link's level and the offset, the items that the link carries
 abbrev pub between : ℕ → ℕ → ℕ

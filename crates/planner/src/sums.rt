@@ -87,29 +87,22 @@ fn total(n: usize, loads: &[u16]) -> u32
     sum
 }
 
-// The level after each of n links, in a lent list: the loads up to it, and what the boards past it are to end with.
-fn put_levels(n: usize, loads: &[u16], surpluses: &[i16], levels: &mut [u32])
+// The level after each of n links, in a lent list: the loads up to it, and what the boards past it are to end with. It begins as that of
+// the link before board 0, which is the last.
+fn put_levels(n: usize, loads: &[u16], surpluses: &[i16], levels: &mut [u32]) -> Span
     requires { ⌜ (Within 2 128 n) × (n ≤ length (now levels)) × ((i : ℕ) → i < n → BoardHeld (now loads) (now surpluses) i) ⌝ }
     requires { ⌜ sum (boardsIn n (now loads) (now surpluses) .load) n ≡ sum (boardsIn n (now loads) (now surpluses) .after) n ⌝ }
+    ensures { λ r. ⌜ r ≡ spanOf (boardsIn n (now (loads .entry)) (now (surpluses .entry))) ⌝ }
     ensures { λ _. ⌜ now (levels .exit) ≡ fill (level (boardsIn n (now (loads .entry)) (now (surpluses .entry)))) n (now (levels .entry)) ⌝ }
 {
     let mut level = total(n, loads);
+    let mut low = level;
+    let mut high = level;
     for i in 0..n {
         level = level + (loads[i] as u32) - (after(loads, surpluses, i) as u32);
         levels[i] = level;
-    }
-}
-
-// The least and the greatest of n levels.
-fn span_of(n: usize, levels: &[u32]) -> Span
-    requires { ⌜ (1 ≤ n) × (n ≤ length (now levels)) ⌝ }
-    ensures { λ r. ⌜ r ≡ spanOf n (now (levels .entry)) ⌝ }
-{
-    let mut low = levels[0];
-    let mut high: u32 = 0;
-    for i in 0..n {
-        low = lesser(low, levels[i]);
-        high = greater(high, levels[i]);
+        low = lesser(low, level);
+        high = greater(high, level);
     }
     Span { low, high }
 }
@@ -193,8 +186,7 @@ pub(crate) fn outline_of(
     ensures { λ r. ⌜ r ≡ outlineOf (ringIn kind n (now (loads .entry)) (now (surpluses .entry)) (now (costs .entry))) ⌝ }
     ensures { λ _. ⌜ now (levels .exit) ≡ fill (level (ringIn kind n (now (loads .entry)) (now (surpluses .entry)) (now (costs .entry)))) n (now (levels .entry)) ⌝ }
 {
-    put_levels(n, loads, surpluses, levels);
-    let span = span_of(n, levels);
+    let span = put_levels(n, loads, surpluses, levels);
     let offset = offset(kind, span.low, span.high);
     let rounds = greater(largest(n, loads, surpluses), (span.high - span.low + 1) / 2);
     let tally = tally_of(n, levels, offset, costs);

@@ -6,7 +6,8 @@ use native.Mathlib.Omega.{arith}
 use denote.Ref.{now}
 use Rattle.ring.specs.Lists.{fill}
 use Rattle.ring.specs.Boards.{Ring, ringIn, mostLoad}
-use Rattle.ring.specs.Plan.{level}
+use Rattle.ring.specs.Plan.{level, low, high}
+use Rattle.planner.specs.Outline.{spanOf}
 use Rattle.planner.proofs.SumOutline.{board-held, levels-long, spread-most, carried-most, whole}
 use borrow.Author.Needs.{needs}
 use Rattle.planner.proofs.sums.outline_of.Statement.{statement}
@@ -24,31 +25,28 @@ put-levels-requires c κs = let p = c .before .before .before .before .pre in ((
 
 filled : (c : tie.After-put-levels) → let s = c .before .before .before .before .before in levels c ≡ fill (level (ring s)) (s .args .n) (now (s .args .levels))
 unfolding level
-filled c = c .put-levels .ensures
+filled c = c .put-levels .ensures .1
 
-span-of-requires : tie.Need-span-of-requires
-span-of-requires c κs =
-    let l = c .before .before .before in
-    let s = l .before .before .before .before .before in
-    (omega (arith, s .pre .0 .accepted .boards), levels-long (ring s) (s .pre .0 .accepted) _ (levels l) (s .pre .1) (filled l))
+span : (c : tie.After-put-levels) → c .put-levels .result ≡ spanOf (ring (c .before .before .before .before .before))
+unfolding low high level
+span c = c .put-levels .ensures .0
 
-spanned : (c : tie.After-span-of) → (c .span-of .result .low ≤ c .span-of .result .high) × (c .span-of .result .high - c .span-of .result .low ≤ 128 * mostLoad)
-spanned c =
-    let l = c .before .before .before .before in
+spanned : (c : tie.After-put-levels) → (c .put-levels .result .low ≤ c .put-levels .result .high) × (c .put-levels .result .high - c .put-levels .result .low ≤ 128 * mostLoad)
+spanned l =
     let s = l .before .before .before .before .before in
-    spread-most (ring s) (s .pre .0 .accepted) _ (levels l) (s .pre .1) (filled l) (c .span-of .result) (c .span-of .ensures)
+    spread-most (ring s) (s .pre .0 .accepted) _ (levels l) (s .pre .1) (filled l) (l .put-levels .result) (span l)
 
 offset-requires : tie.Need-offset-requires
-offset-requires c κs = spanned c .0
+offset-requires c κs = spanned (c .before .before) .0
 
 largest-requires : tie.Need-largest-requires
-largest-requires c κs = let p = c .before .before .before .before .before .before .before .before .before .before .pre .0 in (omega (arith, p .accepted .boards), board-held p)
+largest-requires c κs = let p = c .before .before .before .before .before .before .before .before .pre .0 in (omega (arith, p .accepted .boards), board-held p)
 
 sub-greater : tie.Need-sub-greater
-sub-greater c = spanned (c .before .before .before) .0
+sub-greater c = spanned (c .before .before .before .before .before) .0
 
 add-greater : tie.Need-add-greater
-add-greater c = omega (arith, spanned (c .before .before .before) .1)
+add-greater c = omega (arith, spanned (c .before .before .before .before .before) .1)
 
 greater-requires : tie.Need-greater-requires
 greater-requires c κs = search needs
@@ -56,20 +54,19 @@ greater-requires c κs = search needs
 tally-of-requires : tie.Need-tally-of-requires
 tally-of-requires c κs =
     let o = c .before .before .before .before in
-    let p = o .before in
-    let l = p .before .before .before .before in
+    let l = o .before .before .before in
     let s = l .before .before .before .before .before in
     let ok = s .pre .0 .accepted in (
       omega (arith, ok .boards),
       omega (arith, ok .boards),
       levels-long (ring s) ok _ (levels l) (s .pre .1) (filled l),
       s .pre .0 .costs-long,
-      carried-most (ring s) ok _ (levels l) (s .pre .1) (filled l) (p .span-of .result) (p .span-of .ensures) (o .offset .result) (o .offset .ensures),
+      carried-most (ring s) ok _ (levels l) (s .pre .1) (filled l) (l .put-levels .result) (span l) (o .offset .result) (o .offset .ensures),
     )
 
 shared-slice-read-finish : tie.Need-shared-slice-read-finish
 shared-slice-read-finish c =
-    let s = c .before .before .before .before .before .before .before .before .before .before .before .before .before .before .before .before .before in
+    let s = c .before .before .before .before .before .before .before .before .before .before .before .before .before .before .before in
     omega (arith, s .pre .0 .accepted .boards, s .pre .0 .costs-long)
 
 finish-requires : tie.Need-finish-requires
@@ -84,10 +81,9 @@ returns c =
     let g = t .before .before in
     let b = g .before .before in
     let o = b .before in
-    let p = o .before in
-    let l = p .before .before .before .before in
+    let l = o .before .before .before in
     let s = l .before .before .before .before .before in (
-      whole (ring s) (s .pre .0 .accepted) _ (levels l) (s .pre .1) (filled l) (p .span-of .result) (p .span-of .ensures) (o .offset .result) (o .offset .ensures)
+      whole (ring s) (s .pre .0 .accepted) _ (levels l) (s .pre .1) (filled l) (l .put-levels .result) (span l) (o .offset .result) (o .offset .ensures)
           (b .largest .result) (g .greater .result) (b .largest .ensures) (g .greater .ensures)
           (now (s .args .costs)) (λ i h. refl) (t .tally-of .result) (t .tally-of .ensures) (c .finish .result) (c .finish .ensures),
       filled l,
@@ -98,7 +94,6 @@ outline-of-spec =
     tie.close
     (tie.spec
     put-levels-requires
-    span-of-requires
     offset-requires
     largest-requires
     sub-greater
