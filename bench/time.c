@@ -1,4 +1,4 @@
-/* Times the library's planner against the plain one on the same jobs, in the same run. Both plans are first made in cleared buffers and held
+/* Times the library's planner against the plain one on the same jobs, in the same run. Both plans are first made in buffers filled alike and held
    to be the same bytes; the buffers are not cleared between the calls that are timed. */
 #include "../include/fallowroe.h"
 #include "plain.h"

@@ -5,7 +5,7 @@
  *
  * The convention, the same for all four and for every input:
  *
- *   - The code that is returned is 0 on success. Else it is a refusal: its number (1 to 14, document 01's table) in the lowest
+ *   - The code that is returned is 0 on success. Else it is a refusal: its number (1 to 14, README.md's table) in the lowest
  *     byte and its board above it, so number = code % 256 and board = code / 256. No refusal has code 0.
  *   - On success the function's values stand in values[0], values[1] and values[2] (0 where it has fewer than three), and its
  *     result at the front of the buffer or list that was lent for it; every byte and place after the result is as it was.

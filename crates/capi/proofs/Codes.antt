@@ -21,7 +21,7 @@ use Rattle.hop.specs.declared.Written.{Written}
 use Rattle.hop.specs.declared.Written.the-variants.{Bytes, Refused as Unwritten}
 use Rattle.ring.specs.Lists.{each, eachℤ}
 use Rattle.hop.specs.Refusals.{goesOn, shapeOf, faultless, boardFault, costFault, balancedOf, ringCheck}
-use Rattle.hop.specs.Read.{jobLength, loadAt, surplusAt, costAt, sizesOf, headOf, checkOf, jobOf}
+use Rattle.hop.specs.Read.{jobLength, loadIn, surplusIn, costIn, sizesOf, headOf, checkOf, jobOf}
 use Rattle.hop.specs.Write.{listsOf, roomOf, writtenOf}
 use Rattle.planner.specs.declared.Planned.{Planned}
 use Rattle.planner.specs.declared.Planned.the-variants.{Plan, Refused as Unplanned}
@@ -31,7 +31,7 @@ use Rattle.loads.specs.Query.{boardsOf, lacking, queryAnswer}
 use Rattle.capi.specs.declared.Told.{Told}
 use Rattle.capi.specs.declared.Told.the-variants.{Values, Refused}
 use Rattle.capi.specs.Convention.{codeOf, ofCheck, ofWritten, ofPlanned}
-use Rattle.capi.proofs.Checked.{answer-is}
+use Rattle.hop.proofs.Accepted.{job-answer}
 
 -- a code that says what it should: success is 0; a refusal is not, and its number and board are got back from its code
 abbrev pub Clear : Told → Type 0
@@ -115,7 +115,7 @@ module _ (s : List ℕ) where
       (picked Right (eqb (getD s 2 0) 80) (picked Right (eqb (halfAt s 3) 1) sizes-right (refuses (omega arith))) two)
       two)
       two))
-      (λ kind n. ring-right kind n (loadAt s) (surplusAt s) (costAt s))
+      (λ kind n. ring-right kind n (loadIn s) (surplusIn s) (costIn s))
     where
       two : Right (Unread 2 0)
       two = refuses (omega arith)
@@ -143,7 +143,7 @@ write-clear kind loads surpluses costs room = go (listsOf kind loads surpluses c
 module _ (s : List ℕ) (room : ℕ) where
   pub plan-clear : Clear (ofPlanned (planAnswer (jobOf s) room))
   unfolding planAnswer
-  plan-clear = go (jobOf s .answer) (subst Right (sym (answer-is s)) (check-right s))
+  plan-clear = go (jobOf s .answer) (subst Right (sym (job-answer s)) (check-right s))
     where
       go : (c : Check) → Right c → Clear (ofPlanned (answerBy (jobOf s) room c))
       go (Ring k n) p =

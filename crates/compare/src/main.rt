@@ -286,8 +286,8 @@ fn refusals(refused: [u32; 16]) {
 }
 
 fn main() {
-    let mut mine = [170u8; 65535];
-    let mut theirs = [170u8; 65535];
+    let mut mine = [UNTOUCHED; 65535];
+    let mut theirs = [UNTOUCHED; 65535];
     let counts = compare_all(&mut mine, &mut theirs);
     let rings = counts.rings;
     line(b"rings of kind 1: ", rings[1]);

@@ -9,7 +9,7 @@ const LEAST: [u16; 6] = [1, 1, 1, 1, 1, 4000];
 
 const SPREAD: [u16; 6] = [6, 6, 30, 60, 12, 96];
 
-// Four ways of drawing the costs of kind 2: falling from link to link; all 1; any; up to slow ones.
+// Four ways of drawing the costs of kind 2: falling from link to link; all 1; 1 to 9; 1 to 40.
 const COSTS: [u16; 4] = [1, 1, 9, 40];
 
 // How a ring is drawn. The boards with the surplus are `width` boards from board `mark` on.

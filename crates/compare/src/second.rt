@@ -492,7 +492,7 @@ fn planned(kind: u8, n: u8, sums: Sums, flow: Flow, buf: &mut [u8]) -> Answer {
     }
 }
 
-// The plan of a job. Number 12 is never given: no ring within the limits has a finish of 32 bits or more.
+// The plan of a job. Number 12 is never given: no ring within the limits has a finish of more than 32 bits.
 pub(crate) fn plan(s: &[u8], buf: &mut [u8]) -> Answer {
     let job = hop::read(s);
     let check = job.answer;

@@ -1,3 +1,4 @@
+// The edges of document 01, asked of the reader and the writer: one line for each.
 ghost use Prim.Native.Nat.{_≤_, _<_};
 use hop::Check;
 use hop::Written;

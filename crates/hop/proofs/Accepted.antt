@@ -8,24 +8,31 @@ use Rattle.ring.specs.Boards.{ringIn, Accepted}
 use Rattle.hop.specs.declared.Check.{Check}
 use Rattle.hop.specs.declared.Check.the-variants.{Ring, Refused}
 use Rattle.ring.specs.Lists.{each, eachℤ}
-use Rattle.hop.specs.Read.{loadAt, surplusAt, costAt, headOf, checkOf, beside, jobOf}
+use Rattle.ring.specs.Plan.{surplus}
+use Rattle.ring.proofs.Signed.{taken-off}
+use Rattle.hop.specs.Read.{loadIn, surplusIn, costIn, headOf, checkOf, beside, jobOf}
 use Rattle.hop.proofs.Passed.{went-on, Passed, passed, ring-accepted}
 use Rattle.hop.proofs.Reading.{Headed, headed, lengths, check-is}
 
+-- a check's answer is the job's, whatever stands beside it
 answer-of : (s : List ℕ) (c : Check) → beside s c .answer ≡ c
 answer-of s (Ring k n) = refl
 answer-of s (Refused a b) = refl
 
+-- the reader's answer is its check's
+pub job-answer : (s : List ℕ) → jobOf s .answer ≡ checkOf s
+unfolding jobOf
+job-answer s = answer-of s (checkOf s)
+
 module _ (s : List ℕ) (k n : ℕ) (e : jobOf s .answer ≡ Ring k n) where
   pub check-ring : checkOf s ≡ Ring k n
-  unfolding jobOf
-  check-ring = sym (answer-of s (checkOf s)) ∙ e
+  check-ring = sym (job-answer s) ∙ e
 
   pub head-ring : headOf s ≡ Ring k n
   unfolding checkOf
   head-ring =
       let (a, b, on, e) = went-on (headOf s) _ k n check-ring in
-      let p = passed a b (loadAt s) (surplusAt s) (costAt s) k n e in
+      let p = passed a b (loadIn s) (surplusIn s) (costIn s) k n e in
       on ∙ (λ t. Ring (p .kind-is t) (p .n-is t))
 
   pub job-beside : jobOf s ≡ beside s (Ring k n)
@@ -49,6 +56,10 @@ module _ (s : List ℕ) (k n : ℕ) (e : jobOf s .answer ≡ Ring k n) where
   pub after-is : (i : ℕ) → i < n
       → pos (natAbs (pos (each (jobOf s .loads) i) -ℤ eachℤ (jobOf s .surpluses) i)) ≡ pos (each (jobOf s .loads) i) -ℤ eachℤ (jobOf s .surpluses) i
   after-is i h = job-passed .sane i h .after-is
+
+  -- the ring's surplus is the job's
+  pub surplus-is : (i : ℕ) → i < n → surplus (ringIn k n (jobOf s .loads) (jobOf s .surpluses) (jobOf s .costs)) i ≡ eachℤ (jobOf s .surpluses) i
+  surplus-is i h = taken-off (pos (each (jobOf s .loads) i)) (eachℤ (jobOf s .surpluses) i) _ (after-is i h)
 
   pub arrays : (length (jobOf s .loads) ≡ 128) × (length (jobOf s .surpluses) ≡ 128) × (length (jobOf s .costs) ≡ 128)
   arrays = lengths s k n head-ring (jobOf s) job-beside

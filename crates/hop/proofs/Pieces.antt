@@ -1,4 +1,4 @@
--- Lists made of pieces of six: their length, their elements, and when they are the same. Assumes nothing.
+-- Lists made of pieces of six: their length and their elements; and a list's first elements, one by one. Assumes nothing.
 use mathlib.Core.Path.{_≡_, refl, ap, _∙_}
 use mathlib.Core.List.{List, [], _∷_, _++_}
 use mathlib.Core.Logic.{inl, inr}

@@ -17,7 +17,7 @@ use Rattle.ring.specs.Bytes.{halfAt}
 use Rattle.ring.proofs.Sound.{Sane}
 use Rattle.hop.specs.declared.Check.the-variants.{Ring}
 use Rattle.hop.specs.Refusals.{ringCheck}
-use Rattle.hop.specs.Read.{jobLength, loadAt, surplusAt, costAt, headOf, checkOf, holding, beside, jobOf}
+use Rattle.hop.specs.Read.{jobLength, loadIn, surplusIn, costIn, headOf, checkOf, holding, beside, jobOf}
 use Rattle.hop.specs.Write.{headBytes, boardBytes, jobBytes}
 use Rattle.hop.proofs.Pieces.{joined-long, joined-at}
 use Rattle.ring.proofs.Fill.{Below, fill-same}
@@ -60,13 +60,13 @@ module _ (kind n : ℕ) (load : ℕ → ℕ) (surplus : ℕ → ℤ) (cost : ℕ
     sane : (i : ℕ) → i < n → Sane (load i) (surplus i) (cost i)
     sane i h = passed kind n load surplus cost kind n is .sane i h
 
-    loads-back : Below (loadAt (jobBytes kind n load surplus cost)) load n
+    loads-back : Below (loadIn (jobBytes kind n load surplus cost)) load n
     loads-back = record { at = λ i h. half-at (jobLength i) i 0 (omega arith) h (omega arith) ∙ half-back (load i) (let s = sane i h in omega arith) }
 
-    costs-back : Below (costAt (jobBytes kind n load surplus cost)) cost n
+    costs-back : Below (costIn (jobBytes kind n load surplus cost)) cost n
     costs-back = record { at = λ i h. half-at (jobLength i + 4) i 4 (omega arith) h (omega arith) ∙ half-back (cost i) (let s = sane i h in omega arith) }
 
-    surpluses-back : Below (surplusAt (jobBytes kind n load surplus cost)) surplus n
+    surpluses-back : Below (surplusIn (jobBytes kind n load surplus cost)) surplus n
     surpluses-back = record {
       at = λ i h.
           let s = sane i h in
@@ -84,12 +84,12 @@ module _ (kind n : ℕ) (load : ℕ → ℕ) (surplus : ℕ → ℤ) (cost : ℕ
         let s = jobBytes kind n load surplus cost in
         let e : checkOf s ≡ Ring kind n =
         sym (goes (headOf s) _ kind n head-back)
-        ∙ check-same kind n (omega arith) (loadAt s) load (surplusAt s) surplus (costAt s) cost loads-back surpluses-back costs-back
+        ∙ check-same kind n (omega arith) (loadIn s) load (surplusIn s) surplus (costIn s) cost loads-back surpluses-back costs-back
         ∙ is in
         ap (beside s) e
         ∙ (λ t. record {
           answer = Ring kind n;
-          loads = fill-same (loadAt s) load n (replicate 128 0) loads-back t;
-          surpluses = fill-same (surplusAt s) surplus n (replicate 128 (pos 0)) surpluses-back t;
-          costs = fill-same (costAt s) cost n (replicate 128 0) costs-back t;
+          loads = fill-same (loadIn s) load n (replicate 128 0) loads-back t;
+          surpluses = fill-same (surplusIn s) surplus n (replicate 128 (pos 0)) surpluses-back t;
+          costs = fill-same (costIn s) cost n (replicate 128 0) costs-back t;
         })

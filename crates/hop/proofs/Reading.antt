@@ -15,7 +15,7 @@ use Rattle.hop.specs.declared.Check.the-variants.{Ring, Refused}
 use Rattle.hop.specs.declared.Job.{Job}
 use Rattle.ring.specs.Lists.{each, eachℤ}
 use Rattle.hop.specs.Refusals.{unlike, shapeOf, ringCheck}
-use Rattle.hop.specs.Read.{jobLength, loadAt, surplusAt, costAt, sizesOf, markOf, headOf, checkOf, bare, beside, jobOf}
+use Rattle.hop.specs.Read.{jobLength, loadIn, surplusIn, costIn, sizesOf, markOf, headOf, checkOf, bare, beside, jobOf}
 use Rattle.hop.proofs.First.{no, yes, stands, goes}
 use Rattle.hop.proofs.Same.{check-same}
 use Rattle.hop.proofs.Passed.{went-on, shaped, passed}
@@ -73,26 +73,26 @@ module _ (s : List ℕ) where
   module _ (k n : ℕ) (d : headOf s ≡ Ring k n) (j : Job) (is : j ≡ beside s (Ring k n)) where
     pub lengths : (length (j .loads) ≡ 128) × (length (j .surpluses) ≡ 128) × (length (j .costs) ≡ 128)
     lengths = (
-      ap (λ (x : Job). length (x .loads)) is ∙ fill-length (loadAt s) (replicate 128 0) 0 n,
-      ap (λ (x : Job). length (x .surpluses)) is ∙ fill-length (surplusAt s) (replicate 128 (pos 0)) (pos 0) n,
-      ap (λ (x : Job). length (x .costs)) is ∙ fill-length (costAt s) (replicate 128 0) 0 n,
+      ap (λ (x : Job). length (x .loads)) is ∙ fill-length (loadIn s) (replicate 128 0) 0 n,
+      ap (λ (x : Job). length (x .surpluses)) is ∙ fill-length (surplusIn s) (replicate 128 (pos 0)) (pos 0) n,
+      ap (λ (x : Job). length (x .costs)) is ∙ fill-length (costIn s) (replicate 128 0) 0 n,
     )
 
     -- the arrays hold what the bytes say
-    pub loads-are : n ≤ 128 → Below (each (j .loads)) (loadAt s) n
-    loads-are h = record { at = λ i l. ap (λ (x : Job). each (x .loads) i) is ∙ fill-at (loadAt s) (replicate 128 0) 0 n i l h }
+    pub loads-are : n ≤ 128 → Below (each (j .loads)) (loadIn s) n
+    loads-are h = record { at = λ i l. ap (λ (x : Job). each (x .loads) i) is ∙ fill-at (loadIn s) (replicate 128 0) 0 n i l h }
 
-    pub surpluses-are : n ≤ 128 → Below (eachℤ (j .surpluses)) (surplusAt s) n
-    surpluses-are h = record { at = λ i l. ap (λ (x : Job). eachℤ (x .surpluses) i) is ∙ fill-at (surplusAt s) (replicate 128 (pos 0)) (pos 0) n i l h }
+    pub surpluses-are : n ≤ 128 → Below (eachℤ (j .surpluses)) (surplusIn s) n
+    surpluses-are h = record { at = λ i l. ap (λ (x : Job). eachℤ (x .surpluses) i) is ∙ fill-at (surplusIn s) (replicate 128 (pos 0)) (pos 0) n i l h }
 
-    pub costs-are : n ≤ 128 → Below (each (j .costs)) (costAt s) n
-    costs-are h = record { at = λ i l. ap (λ (x : Job). each (x .costs) i) is ∙ fill-at (costAt s) (replicate 128 0) 0 n i l h }
+    pub costs-are : n ≤ 128 → Below (each (j .costs)) (costIn s) n
+    costs-are h = record { at = λ i l. ap (λ (x : Job). each (x .costs) i) is ∙ fill-at (costIn s) (replicate 128 0) 0 n i l h }
 
     pub check-is : ringCheck k n (each (j .loads)) (eachℤ (j .surpluses)) (each (j .costs)) ≡ checkOf s
     unfolding checkOf
     check-is =
         let h = headed k n d .boards in
-        check-same k n (omega arith) (each (j .loads)) (loadAt s) (eachℤ (j .surpluses)) (surplusAt s) (each (j .costs)) (costAt s)
+        check-same k n (omega arith) (each (j .loads)) (loadIn s) (eachℤ (j .surpluses)) (surplusIn s) (each (j .costs)) (costIn s)
         (loads-are (h .1)) (surpluses-are (h .1)) (costs-are (h .1))
         ∙ goes (headOf s) _ k n d
 

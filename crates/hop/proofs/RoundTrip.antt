@@ -17,7 +17,7 @@ use Rattle.hop.specs.declared.Written.{Written}
 use Rattle.hop.specs.declared.Written.the-variants.{Bytes, Refused as Unwritten}
 use Rattle.ring.specs.Lists.{each, eachℤ}
 use Rattle.hop.specs.Refusals.{ringCheck}
-use Rattle.hop.specs.Read.{jobLength, loadAt, surplusAt, costAt, headOf, checkOf, holding, jobOf}
+use Rattle.hop.specs.Read.{jobLength, loadIn, surplusIn, costIn, headOf, checkOf, holding, jobOf}
 use Rattle.hop.specs.Write.{headBytes, recordBytes, boardBytes, jobBytes, listsOf, roomOf, writtenOf, bufferBy, bufferOf}
 use Rattle.hop.proofs.First.{goes}
 use Rattle.hop.proofs.Passed.{shape-ring}
@@ -79,14 +79,14 @@ module _ (s : List ℕ) (bytes : (i : ℕ) → getD s i 0 < 256) (k n : ℕ) (e 
       let xs = take n (jobOf s .loads) in
       let zs = take n (jobOf s .surpluses) in
       let cs = take n (jobOf s .costs) in
-      let sl : Below (each xs) (loadAt s) n = record { at = λ i l. getD-take n (jobOf s .loads) i 0 l ∙ loads-are s k n f (jobOf s) b (h .boards .1) .at i l } in
-      let sz : Below (eachℤ zs) (surplusAt s) n = record { at = λ i l. getD-take n (jobOf s .surpluses) i (pos 0) l ∙ surpluses-are s k n f (jobOf s) b (h .boards .1) .at i l } in
-      let sc : Below (each cs) (costAt s) n = record { at = λ i l. getD-take n (jobOf s .costs) i 0 l ∙ costs-are s k n f (jobOf s) b (h .boards .1) .at i l } in
+      let sl : Below (each xs) (loadIn s) n = record { at = λ i l. getD-take n (jobOf s .loads) i 0 l ∙ loads-are s k n f (jobOf s) b (h .boards .1) .at i l } in
+      let sz : Below (eachℤ zs) (surplusIn s) n = record { at = λ i l. getD-take n (jobOf s .surpluses) i (pos 0) l ∙ surpluses-are s k n f (jobOf s) b (h .boards .1) .at i l } in
+      let sc : Below (each cs) (costIn s) n = record { at = λ i l. getD-take n (jobOf s .costs) i 0 l ∙ costs-are s k n f (jobOf s) b (h .boards .1) .at i l } in
       let is : ringCheck k n (each xs) (eachℤ zs) (each cs) ≡ Ring k n =
-      check-same k n (omega arith) (each xs) (loadAt s) (eachℤ zs) (surplusAt s) (each cs) (costAt s) sl sz sc ∙ goes (headOf s) _ k n f ∙ check-ring s k n e in
+      check-same k n (omega arith) (each xs) (loadIn s) (eachℤ zs) (surplusIn s) (each cs) (costIn s) sl sz sc ∙ goes (headOf s) _ k n f ∙ check-ring s k n e in
       let ring = lists-ring k n xs zs cs (length-take-le n (jobOf s .loads) (omega arith)) (length-take-le n (jobOf s .surpluses) (omega arith)) (length-take-le n (jobOf s .costs) (omega arith)) (h .kinds) (h .boards) is in
       let same : s ≡ jobBytes k n (each xs) (eachℤ zs) (each cs) =
-      sym (ap (λ (r : List ℕ). headBytes k n ++ r) (joined-same (boardBytes (each xs) (eachℤ zs) (each cs)) (boardBytes (loadAt s) (surplusAt s) (costAt s)) n
+      sym (ap (λ (r : List ℕ). headBytes k n ++ r) (joined-same (boardBytes (each xs) (eachℤ zs) (each cs)) (boardBytes (loadIn s) (surplusIn s) (costIn s)) n
       (λ i l t. recordBytes (sl .at i l t) (sz .at i l t) (sc .at i l t)))
       ∙ same-bytes s bytes k n h) in
       let w = wrote k xs zs cs buf k n (length s) ring (h .whole) room (s ++ drop (length s) buf) ((λ t. same t ++ drop (h .whole t) buf)) in

@@ -10,7 +10,7 @@ use mir.Val.{toZ, ofZ}
 use mir.Facts.{ofZ-toZ}
 use Rattle.ring.specs.Lists.{joined}
 use Rattle.ring.specs.Bytes.{halfAt, halfBytes}
-use Rattle.hop.specs.Read.{jobLength, loadAt, surplusAt, costAt}
+use Rattle.hop.specs.Read.{jobLength, loadIn, surplusIn, costIn}
 use Rattle.hop.specs.Write.{headBytes, boardBytes, jobBytes}
 use Rattle.hop.proofs.Pieces.{first}
 use Rattle.hop.proofs.Reading.{Headed}
@@ -26,7 +26,7 @@ module _ (s : List ℕ) (bytes : (i : ℕ) → getD s i 0 < 256) where
   half-bytes p = two (getD s p 0) (getD s (p + 1) 0) (bytes p) (bytes (p + 1))
 
   -- the six bytes of board i
-  record-bytes : (i : ℕ) → jobLength i + 6 ≤ length s → boardBytes (loadAt s) (surplusAt s) (costAt s) i ≡ take 6 (drop (jobLength i) s)
+  record-bytes : (i : ℕ) → jobLength i + 6 ≤ length s → boardBytes (loadIn s) (surplusIn s) (costIn s) i ≡ take 6 (drop (jobLength i) s)
   unfolding joined
   record-bytes i h =
       let p = jobLength i in
@@ -45,13 +45,13 @@ module _ (s : List ℕ) (bytes : (i : ℕ) → getD s i 0 < 256) where
         (λ t. sym (h .h) t ∷ sym (h .o) t ∷ sym (h .p) t ∷ zero-is t ∷ one-is t ∷ sym (h .kind-is) t ∷ sym (h .n-is) t ∷ [])
         ∙ sym (first 7 s (omega (arith, h .whole)))
 
-    up-to : (i : ℕ) → i ≤ n → headBytes k n ++ joined (boardBytes (loadAt s) (surplusAt s) (costAt s)) i ≡ take (jobLength i) s
+    up-to : (i : ℕ) → i ≤ n → headBytes k n ++ joined (boardBytes (loadIn s) (surplusIn s) (costIn s)) i ≡ take (jobLength i) s
     unfolding joined
     up-to zero l = head-bytes
     up-to (suc i) l =
         let q : jobLength i + 6 ≡ jobLength (suc i) = omega arith in
         (λ t. up-to i (omega arith) t ++ record-bytes i (omega (arith, h .whole)) t) ∙ sym (take-add (jobLength i) 6 s) ∙ ap (λ (m : ℕ). take m s) q
 
-    pub same-bytes : jobBytes k n (loadAt s) (surplusAt s) (costAt s) ≡ s
+    pub same-bytes : jobBytes k n (loadIn s) (surplusIn s) (costIn s) ≡ s
     unfolding jobBytes
     same-bytes = up-to n (omega arith) ∙ ap (λ (m : ℕ). take m s) (sym (h .whole)) ∙ take-length s

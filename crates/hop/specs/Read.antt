@@ -18,15 +18,17 @@ use Rattle.hop.specs.Refusals.{unlike, goesOn, shapeOf, ringCheck}
 abbrev pub jobLength : ℕ → ℕ
 jobLength n = 7 + 6 * n
 
--- board i's load, its surplus in two's complement, and the cost of link i
-abbrev pub loadAt : List ℕ → ℕ → ℕ
-loadAt s i = halfAt s (jobLength i)
+-- board i's load
+abbrev pub loadIn : List ℕ → ℕ → ℕ
+loadIn s i = halfAt s (jobLength i)
 
-abbrev pub surplusAt : List ℕ → ℕ → ℤ
-surplusAt s i = toZ w16 (halfAt s (jobLength i + 2))
+-- board i's surplus, in two's complement
+abbrev pub surplusIn : List ℕ → ℕ → ℤ
+surplusIn s i = toZ w16 (halfAt s (jobLength i + 2))
 
-abbrev pub costAt : List ℕ → ℕ → ℕ
-costAt s i = halfAt s (jobLength i + 4)
+-- the cost of link i
+abbrev pub costIn : List ℕ → ℕ → ℕ
+costIn s i = halfAt s (jobLength i + 4)
 
 -- refusals 4 to 6, or the kind and n
 abbrev pub sizesOf : List ℕ → Check
@@ -46,7 +48,7 @@ headOf s = pick (ltb (length s) 7) (Refused 1 0) (markOf s)
 
 -- the reader's answer: refusals 1 to 6, then 7 to 11, or the kind and n
 unfoldable pub checkOf : List ℕ → Check
-checkOf s = goesOn (headOf s) (λ kind n. ringCheck kind n (loadAt s) (surplusAt s) (costAt s))
+checkOf s = goesOn (headOf s) (λ kind n. ringCheck kind n (loadIn s) (surplusIn s) (costIn s))
 
 -- a ring with its boards' numbers beside it, and zeros after them
 abbrev pub holding : ℕ → ℕ → (ℕ → ℕ) → (ℕ → ℤ) → (ℕ → ℕ) → Job
@@ -64,7 +66,7 @@ bare answer = record { answer = answer; loads = replicate 128 0; surpluses = rep
 
 -- a ring has the numbers that the bytes say beside it, a refusal has zeros
 abbrev pub beside : List ℕ → Check → Job
-beside s (Ring kind n) = holding kind n (loadAt s) (surplusAt s) (costAt s)
+beside s (Ring kind n) = holding kind n (loadIn s) (surplusIn s) (costIn s)
 beside s (Refused number board) = bare (Refused number board)
 
 -- the job that is read from any bytes

@@ -7,11 +7,12 @@ use Rattle.ring.specs.Limits.{outside, boardOf, faultOf}
 use Rattle.hop.specs.declared.Check.{Check}
 use Rattle.hop.specs.declared.Check.the-variants.{Ring, Refused}
 
--- document 01's number of a check's answer, 0 where it is no refusal, and its board
+-- document 01's number of a check's answer, 0 where it is no refusal
 abbrev pub numberOf : Check → ℕ
 numberOf (Ring kind n) = 0
 numberOf (Refused number board) = number
 
+-- its board, 0 where it is no refusal
 abbrev pub placeOf : Check → ℕ
 placeOf (Ring kind n) = 0
 placeOf (Refused number board) = board
@@ -42,11 +43,11 @@ boardFault load surplus cost i = faultOf (boardOf (load i) (surplus i) (cost i))
 abbrev pub costFault : (ℕ → ℕ) → ℕ → ℕ
 costFault cost i = unlike (cost i) (cost 0) 10 0
 
--- 11, or the ring
+-- 11 where the surpluses don't sum to 0, else the ring
 abbrev pub balancedOf : ℕ → ℕ → (ℕ → ℤ) → Check
 balancedOf kind n surplus = unlike (natAbs (sumℤ surplus n)) 0 (Refused 11 0) (Ring kind n)
 
--- 10 unless the kind is 2, then 11
+-- unless the kind is 2, 10 at the first board whose cost differs from board 0's; then 11; or the ring
 abbrev pub alikeOf : ℕ → ℕ → (ℕ → ℤ) → (ℕ → ℕ) → Check
 alikeOf kind n surplus cost = pick (eqb kind 2) (balancedOf kind n surplus) (faultless (costFault cost) n (balancedOf kind n surplus))
 

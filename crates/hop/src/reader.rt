@@ -76,7 +76,7 @@ fn head(s: &[u8]) -> Check
     mark(s)
 }
 
-// Refusals 7 to 11 of the numbers that one job holds and lends together, or the ring.
+// The check of three arrays that one job lends, so of one lifetime; `boards` takes the writer's three slices, each with its own.
 fn boards_held<'a>(
     kind: u8,
     n: u8,

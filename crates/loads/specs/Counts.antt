@@ -2,11 +2,12 @@
 -- The sends that a plan's bytes say, and what each board has received and sent of them by a tick.
 use mathlib.Core.List.{List, []}
 use Prim.Native.Nat.{ℕ, _+_, _*_, _-_, _≤_, _<_}
-use lib.ListN.{getD, replicate}
-use Rattle.ring.specs.Lists.{each, upTo, fill}
+use lib.ListN.{getD}
+use Rattle.ring.specs.Lists.{each, upTo}
 use Rattle.ring.specs.Boards.{Ring, ringIn}
 use Rattle.ring.specs.Schedule.{Send, receivedBy, sentBefore}
 use Rattle.ring.specs.Bytes.{wordAt}
+use Rattle.planner.specs.Traffic.{forBoards}
 use Rattle.loads.specs.declared.Counts.{Counts}
 
 -- the place of record k
@@ -29,8 +30,8 @@ linksIn n costs = ringIn 0 n [] [] costs
 abbrev pub countsOf : Ring → List Send → ℕ → Counts
 countsOf r σ tick =
     record {
-      received = fill (λ i. receivedBy r σ i tick) (r .n) (replicate 128 0);
-      sent = fill (λ i. sentBefore r σ i tick) (r .n) (replicate 128 0);
+      received = forBoards (λ i. receivedBy r σ i tick) (r .n);
+      sent = forBoards (λ i. sentBefore r σ i tick) (r .n);
     }
 
 -- what board i is left with: its load, and what it received, less what it sent

@@ -14,7 +14,7 @@ use Rattle.planner.specs.declared.Planned.{Planned}
 use Rattle.planner.specs.declared.Planned.the-variants.{Plan, Refused}
 use Rattle.planner.specs.Answer.{ringFor, planAnswer, planMemory}
 
--- n, where a ring was read
+-- n where a ring was read, else 0
 abbrev pub boardsOf : Check → ℕ
 boardsOf (Ring kind n) = n
 boardsOf (Unread number board) = 0
@@ -34,7 +34,7 @@ abbrev pub unlessRefused : Planned → List ℕ → List ℕ → List ℕ
 unlessRefused (Plan finish moves tight) after before = after
 unlessRefused (Refused number board) after before = before
 
--- the buffer afterwards: as the planner leaves it
+-- the buffer afterwards: as the planner leaves it, or after any refusal, 14 too, as it was
 unfoldable pub queryPlan : Job → ℕ → List ℕ → List ℕ
 queryPlan job places xs = unlessRefused (queryAnswer job (length xs) places) (planMemory job xs) xs
 

@@ -16,7 +16,7 @@ use Rattle.planner.specs.declared.Planned.{Planned}
 use Rattle.planner.specs.declared.Planned.the-variants.{Plan, Refused}
 use Rattle.planner.specs.declared.sums.Outline.{Outline}
 use Rattle.planner.specs.PlanBytes.{headBytes, recordsOf, planBytes, planLength}
-use Rattle.planner.specs.Answer.{answerFor}
+use Rattle.planner.specs.Answer.{weighedOf, answerFor}
 use Rattle.planner.specs.Outline.{carriesIn, outlineOf, Lent}
 use Rattle.planner.specs.Links.{pieceBy, Linked, linksAfter}
 use Rattle.planner.proofs.Bytes.{head-long}
@@ -46,10 +46,8 @@ through r room p f m k a b =
 
 module _ (kind n : ℕ) (loads : List ℕ) (surpluses : List ℤ) (costs : List ℕ) (lent : Lent kind n loads surpluses costs) (o : Outline) (is : o ≡ outlineOf (ringIn kind n loads surpluses costs)) where
   pub answer-is : (room : ℕ)
-      → pick (ltb 4294967295 (o .finish .0)) (Refused 12 0) (pick (ltb room (15 + 6 * o .moves)) (Refused 13 0) (Plan (o .finish .0) (o .moves) (o .tight)))
-      ≡ answerFor (ringIn kind n loads surpluses costs) room
-  answer-is room t =
-      pick (ltb 4294967295 (is t .finish .0)) (Refused 12 0) (pick (ltb room (15 + 6 * is t .moves)) (Refused 13 0) (Plan (is t .finish .0) (is t .moves) (is t .tight)))
+      → weighedOf (o .finish .0) (o .moves) (o .tight) room ≡ answerFor (ringIn kind n loads surpluses costs) room
+  answer-is room t = weighedOf (is t .finish .0) (is t .moves) (is t .tight) room
 
   -- and with the levels, in a list that had room for them
   module _ (was levels : List ℕ) (room : n ≤ length was) (put : levels ≡ fill (level (ringIn kind n loads surpluses costs)) n was) where

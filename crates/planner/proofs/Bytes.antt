@@ -11,6 +11,7 @@ use Rattle.ring.specs.Boards.{Ring}
 use Rattle.ring.specs.Schedule.{Send}
 use Rattle.ring.specs.Plan.{plan, sendOf, wayOf, startOf, linkSends, carries, finishOf, moves}
 use Rattle.ring.proofs.Joined.{joined-same, joined-add}
+use Rattle.hop.proofs.Pieces.{joined-long}
 use Rattle.planner.specs.PlanBytes.{sendBytes, linkBytes, recordsOf, headBytes, planBytes}
 
 pub send-long : (s : Send) → length (sendBytes s) ≡ 6
@@ -18,9 +19,7 @@ unfolding sendBytes
 send-long s = refl
 
 pub link-long : (link way : ℕ) (start : ℕ → ℕ) (k : ℕ) → length (linkBytes link way start k) ≡ 6 * k
-unfolding joined
-link-long link way start zero = refl
-link-long link way start (suc k) = simp (length-append, send-long, link-long link way start k) (omega arith)
+link-long link way start k = joined-long (λ x. sendBytes (record { link = link; way = way; start = start x })) (λ x. send-long _) k
 
 pub head-long : (kind n finish moves : ℕ) → length (headBytes kind n finish moves) ≡ 15
 unfolding headBytes

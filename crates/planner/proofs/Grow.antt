@@ -3,20 +3,19 @@ use mathlib.Core.Path.{_≡_, refl, ap, _∙_}
 use mathlib.Core.List.{List, _++_, append-nil}
 use Prim.Native.Nat.{ℕ, suc, _+_, _*_, _-_, _≤_, _<_}
 use native.Mathlib.Omega.{arith}
-use native.Mathlib.Nat.{le-refl}
-use native.Mathlib.Decide.{le-ind}
 use native.Mathlib.Numerals.{add-one}
 use lib.ListN.{length, take, drop, take-append-drop}
 use lib.Seq.{take-at, drop-at, drop-drop, length-take-le}
 use borrow.Rule.Slice.PartMut.{putMid, midOf}
 use Rattle.ring.specs.Numbers.{sum}
 use Rattle.ring.specs.Lists.{joined}
+use Rattle.ring.proofs.Sums.{sum-mono}
 use Rattle.hop.proofs.Grow.{Begins, more}
 
 -- the terms below n are at least those up to i
 pub sum-within : (w : ℕ → ℕ) (i n : ℕ) → i < n → sum w i + w i ≤ sum w n
 unfolding sum
-sum-within w i n h = le-ind (λ z. sum w (suc i) ≤ sum w z) (le-refl (sum w (suc i))) (λ z p q. omega arith) n h
+sum-within w i n h = sum-mono w (suc i) n h
 
 -- pieces of 6 bytes for each of w's, from byte `from` on: those below i are written, up to byte at
 pub record Written (from : ℕ) (g : ℕ → List ℕ) (w : ℕ → ℕ) (xs : List ℕ) (i at : ℕ) (now : List ℕ) : Type 0 where

@@ -1,6 +1,6 @@
 -- What the planner answers, and what it leaves in the lent buffer, for every job that the reader answers.
 use mathlib.Core.List.{List, _++_}
-use Prim.Native.Nat.{ℕ}
+use Prim.Native.Nat.{ℕ, _+_, _*_}
 use lib.Dec.{ltb}
 use lib.ListN.{length, drop}
 use Rattle.ring.specs.Numbers.{pick}
@@ -13,12 +13,15 @@ use Rattle.planner.specs.declared.Planned.{Planned}
 use Rattle.planner.specs.declared.Planned.the-variants.{Plan, Refused}
 use Rattle.planner.specs.PlanBytes.{planBytes, planLength}
 
--- for an accepted ring and so many bytes of room: 12 where the finish is above 4,294,967,295, 13 where the plan is longer than the
--- room, else finish, moves and tight link
+-- for a plan's numbers and so many bytes of room: 12 where the finish is above 4,294,967,295, 13 where the plan is longer than the room, else
+-- finish, moves and tight link
+abbrev pub weighedOf : ℕ → ℕ → ℕ → ℕ → Planned
+weighedOf finish moves tight room =
+    pick (ltb 4294967295 finish) (Refused 12 0) (pick (ltb room (15 + 6 * moves)) (Refused 13 0) (Plan finish moves tight))
+
+-- the same for an accepted ring
 abbrev pub answerFor : Ring → ℕ → Planned
-answerFor r room =
-    pick (ltb 4294967295 (finishOf r)) (Refused 12 0)
-    (pick (ltb room (planLength r)) (Refused 13 0) (Plan (finishOf r) (moves r) (tight r)))
+answerFor r room = weighedOf (finishOf r) (moves r) (tight r) room
 
 -- a buffer after such an answer: the plan's bytes and then what was there, or after a refusal all that was there
 abbrev pub memoryFor : Ring → Planned → List ℕ → List ℕ
@@ -29,18 +32,20 @@ memoryFor r (Refused number board) xs = xs
 abbrev pub ringFor : Job → ℕ → ℕ → Ring
 ringFor job kind n = ringIn kind n (job .loads) (job .surpluses) (job .costs)
 
--- the planner's answer to a job: the reader's refusal, or that of its ring
+-- the answer for a job with this check: the reader's refusal, or that of its ring
 abbrev pub answerBy : Job → ℕ → Check → Planned
 answerBy job room (Read kind n) = answerFor (ringFor job kind n) room
 answerBy job room (Unread number board) = Refused number board
 
+-- the planner's answer to a job
 unfoldable pub planAnswer : Job → ℕ → Planned
 planAnswer job room = answerBy job room (job .answer)
 
--- the buffer afterwards
+-- a buffer after the answer for a job with this check
 abbrev pub memoryBy : Job → List ℕ → Check → List ℕ
 memoryBy job xs (Read kind n) = let r = ringFor job kind n in memoryFor r (answerFor r (length xs)) xs
 memoryBy job xs (Unread number board) = xs
 
+-- the buffer that the planner leaves
 unfoldable pub planMemory : Job → List ℕ → List ℕ
 planMemory job xs = memoryBy job xs (job .answer)

@@ -19,7 +19,7 @@ use Rattle.planner.specs.Traffic.{forBoards}
 abbrev pub boardsIn : ℕ → List ℕ → List ℤ → Ring
 boardsIn n loads surpluses = ringIn 0 n loads surpluses []
 
--- the lists have a board i, whose load and load after, load − surplus, are within the limits
+-- the lists have a board i, whose load and load after are at most 4,095, and whose load − surplus is not below 0
 pub record BoardHeld (loads : List ℕ) (surpluses : List ℤ) (i : ℕ) : Type 0 where
   pub load-here : i < length loads
   pub surplus-here : i < length surpluses

@@ -34,10 +34,11 @@ module _ (r : Ring) where
   abbrev pub planLength : ℕ
   planLength = 15 + 6 * moves r
 
--- the finish and the moves that a plan's bytes say
+-- the finish that a plan's bytes say
 abbrev pub finishIn : List ℕ → ℕ
 finishIn s = wordAt s 7
 
+-- the moves that a plan's bytes say
 abbrev pub movesIn : List ℕ → ℕ
 movesIn s = wordAt s 11
 

@@ -25,10 +25,11 @@ sendsBy r who i = count (λ s. eqb (who s) i) (plan r)
 abbrev pub trafficIn : Ring → Traffic
 trafficIn r = record { sends = forBoards (sendsBy r (sender r)) (r .n); receives = forBoards (sendsBy r (receiver r)) (r .n) }
 
--- those of a job: its ring's, or none where it is refused
+-- those for a job with this check: its ring's, or none where it is refused
 abbrev pub trafficBy : Job → Check → Traffic
 trafficBy job (Read kind n) = trafficIn (ringFor job kind n)
 trafficBy job (Unread number board) = record { sends = replicate 128 0; receives = replicate 128 0 }
 
+-- those of a job
 unfoldable pub trafficOf : Job → Traffic
 trafficOf job = trafficBy job (job .answer)

@@ -11,6 +11,7 @@ use crate::runs::link_before;
 use crate::sums::outline_of;
 use hop::Check;
 
+// How much a is more than b.
 fn beyond(a: u32, b: u32) -> u32
     ensures { λ r. ⌜ r ≡ a - b ⌝ }
 {

@@ -1,13 +1,10 @@
 // The planner: from a job's bytes to a plan's bytes in a lent buffer.
 ghost use mathlib.Core.Path.{_≡_};
-ghost use Prim.Native.Nat.{_+_, _*_};
-ghost use lib.Dec.{ltb};
 ghost use lib.ListN.{length};
-ghost use Rattle.ring.specs.Numbers.{pick};
 ghost use Rattle.ring.specs.Boards.{ringIn};
 ghost use Rattle.hop.specs.Refusals.{numberOf, placeOf};
 ghost use Rattle.hop.specs.Read.{jobOf};
-ghost use Rattle.planner.specs.Answer.{answerFor, memoryFor, planAnswer, planMemory};
+ghost use Rattle.planner.specs.Answer.{weighedOf, answerFor, memoryFor, planAnswer, planMemory};
 ghost use Rattle.planner.specs.Outline.{Lent};
 
 mod crossings;
@@ -44,7 +41,7 @@ fn stopped(check: Check) -> Planned
 
 // Refusals 12 and 13, or the plan's numbers.
 fn weighed(finish: Ticks, moves: u32, tight: u8, room: usize) -> Planned
-    ensures { λ r. ⌜ r ≡ pick (ltb 4294967295 (finish .0)) (Planned.Refused 12 0) (pick (ltb room (15 + 6 * moves)) (Planned.Refused 13 0) (Planned.Plan (finish .0) moves tight)) ⌝ }
+    ensures { λ r. ⌜ r ≡ weighedOf (finish .0) moves tight room ⌝ }
 {
     let ticks = finish.0;
     if 4294967295 < ticks {

@@ -1,9 +1,10 @@
+// The numbers of a plan, from the numbers of an accepted ring.
 ghost use mathlib.Core.Path.{_≡_};
 ghost use Prim.Native.Nat.{ℕ, _+_, _*_, _-_, _/_, _<_, _≤_, max, min};
 ghost use lib.Dec.{eqb, ltb};
-ghost use lib.ListN.{length, getD};
+ghost use lib.ListN.{length};
 ghost use Rattle.ring.specs.Numbers.{pick, sum, greatest};
-ghost use Rattle.ring.specs.Lists.{fill};
+ghost use Rattle.ring.specs.Lists.{each, fill};
 ghost use Rattle.ring.specs.Boards.{ringIn, Within, mostLoad};
 ghost use Rattle.ring.specs.Plan.{level, surplusSize};
 ghost use Rattle.planner.specs.Outline.{BoardHeld, Lent, boardsIn, between, carriesIn, spanOf, tallyOf, outlineOf};
@@ -33,31 +34,35 @@ struct Tally {
     slowest: Ticks,
 }
 
+// The lesser of two.
 fn lesser(a: u32, b: u32) -> u32
     ensures { λ r. ⌜ r ≡ min a b ⌝ }
 {
     if a < b { a } else { b }
 }
 
+// The greater of two.
 fn greater(a: u32, b: u32) -> u32
     ensures { λ r. ⌜ r ≡ max a b ⌝ }
 {
     if a < b { b } else { a }
 }
 
+// The later of two.
 fn later(a: Ticks, b: Ticks) -> Ticks
     ensures { λ r. ⌜ r .0 ≡ max (a .0) (b .0) ⌝ }
 {
     if a.0 < b.0 { b } else { a }
 }
 
+// How far two numbers are apart.
 pub(crate) fn apart(a: u32, b: u32) -> u32
     ensures { λ r. ⌜ r ≡ between a b ⌝ }
 {
     if a < b { b - a } else { a - b }
 }
 
-// The load that board i is to end with: the only place that computes with signed numbers.
+// The load that board i is to end with: the planner's only place that computes with signed numbers.
 fn after(loads: &[u16], surpluses: &[i16], i: usize) -> u16
     requires { ⌜ BoardHeld (now loads) (now surpluses) i ⌝ }
     ensures { λ r. ⌜ r ≡ boardsIn 0 (now (loads .entry)) (now (surpluses .entry)) .after i ⌝ }
@@ -78,7 +83,7 @@ fn surplus_size(loads: &[u16], surpluses: &[i16], i: usize) -> u32
 // The loads of n boards together.
 fn total(n: usize, loads: &[u16]) -> u32
     requires { ⌜ (n ≤ 128) × (n ≤ length (now loads)) ⌝ }
-    ensures { λ r. ⌜ r ≡ sum (λ i. getD (now (loads .entry)) i 0) n ⌝ }
+    ensures { λ r. ⌜ r ≡ sum (each (now (loads .entry))) n ⌝ }
 {
     let mut sum: u32 = 0;
     for i in 0..n {
@@ -87,8 +92,8 @@ fn total(n: usize, loads: &[u16]) -> u32
     sum
 }
 
-// The level after each of n links, in a lent list: the loads up to it, and what the boards past it are to end with. It begins as that of
-// the link before board 0, which is the last.
+// The level of each of n links, in a lent list: the loads up to it, and what the boards past it are to end with; answers the least and the
+// greatest. It begins as that of the link before board 0, which is the last.
 fn put_levels(n: usize, loads: &[u16], surpluses: &[i16], levels: &mut [u32]) -> Span
     requires { ⌜ (Within 2 128 n) × (n ≤ length (now levels)) × ((i : ℕ) → i < n → BoardHeld (now loads) (now surpluses) i) ⌝ }
     requires { ⌜ sum (boardsIn n (now loads) (now surpluses) .load) n ≡ sum (boardsIn n (now loads) (now surpluses) .after) n ⌝ }

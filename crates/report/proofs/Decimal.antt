@@ -8,6 +8,7 @@ use native.Mathlib.Omega.{arith}
 use lib.ListN.{length, getD, set, length-append}
 use borrow.Author.Tests.{lt-ltb, le-ltb}
 use Rattle.ring.specs.Lists.{Each}
+use Rattle.ring.proofs.Totals.{each-append}
 use Rattle.report.specs.Text.{digits, decimal}
 use Rattle.report.proofs.Grow.{Wrote, nothing, byte}
 
@@ -49,14 +50,10 @@ decimal-value n h =
 abbrev pub Digit : ℕ → Type 0
 Digit d = (48 ≤ d) × (d ≤ 57)
 
-each-last : (P : ℕ → Type 0) (ds : List ℕ) (d : ℕ) → Each P ds → P d → Each P (ds ++ d ∷ [])
-each-last P [] d e p = (p, tt)
-each-last P (x ∷ ds) d e p = (e .0, each-last P ds d (e .1) p)
-
 pub decimal-digits : (n : ℕ) → n < 10 ^ 10 → Each Digit (decimal n)
 unfolding decimal
 decimal-digits n h =
-    by-digit (λ n ds. Each Digit ds) (λ n l. (omega arith, tt)) (λ n ds l e. each-last Digit ds (48 + n % 10) e (omega arith)) 9 n h
+    by-digit (λ n ds. Each Digit ds) (λ n l. (omega arith, tt)) (λ n ds l e. each-append Digit ds ((48 + n % 10) ∷ []) e (omega arith, tt)) 9 n h
 
 first-last : (ds : List ℕ) (d : ℕ) → 48 < getD ds 0 48 → 48 < getD (ds ++ d ∷ []) 0 48
 first-last [] d h = absurd (omega arith)

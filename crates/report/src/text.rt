@@ -2,9 +2,11 @@
 ghost use mathlib.Core.Path.{_≡_};
 ghost use mathlib.Core.List.{_++_};
 ghost use Prim.Native.Nat.{_+_, _*_, _≤_};
-ghost use lib.ListN.{length, getD};
+ghost use lib.ListN.{length};
+ghost use Rattle.ring.specs.Lists.{each};
 ghost use Rattle.report.specs.Text.{over, ascii, decimal, field, firstLine, boardLine, boardLines, refusalLine};
 
+// A word at the front of a part: its length.
 fn put_word(part: &mut [u8], word: &[u8]) -> usize
     requires { ⌜ length (now word) ≤ length (now part) ⌝ }
     ensures { λ r. ⌜ r ≡ length (now (word .entry)) ⌝ }
@@ -17,6 +19,7 @@ fn put_word(part: &mut [u8], word: &[u8]) -> usize
     n
 }
 
+// A number in decimal at the front of a part: how many digits it has.
 fn put_decimal(part: &mut [u8], n: u32) -> usize
     requires { ⌜ 10 ≤ length (now part) ⌝ }
     ensures { λ r. ⌜ r ≡ length (decimal n) ⌝ }
@@ -126,8 +129,8 @@ fn put_board(part: &mut [u8], board: u8, sends: u32, receives: u32) -> usize
 fn put_boards(part: &mut [u8], n: u8, sends: &[u32], receives: &[u32]) -> usize
     requires { ⌜ (n ≤ length (now sends)) × (n ≤ length (now receives)) × (61 * n ≤ length (now part)) ⌝ }
     ensures { λ r. ⌜ r ≤ 61 * n ⌝ }
-    ensures { λ r. ⌜ r ≡ length (boardLines (λ b. getD (now (sends .entry)) b 0) (λ b. getD (now (receives .entry)) b 0) n) ⌝ }
-    ensures { λ _. ⌜ now (part .exit) ≡ over (boardLines (λ b. getD (now (sends .entry)) b 0) (λ b. getD (now (receives .entry)) b 0) n) (now (part .entry)) ⌝ }
+    ensures { λ r. ⌜ r ≡ length (boardLines (each (now (sends .entry))) (each (now (receives .entry))) n) ⌝ }
+    ensures { λ _. ⌜ now (part .exit) ≡ over (boardLines (each (now (sends .entry))) (each (now (receives .entry))) n) (now (part .entry)) ⌝ }
 {
     let boards = n as usize;
     let mut at = 0;
@@ -148,8 +151,8 @@ pub(crate) fn put_lines(
     receives: &[u32],
 ) -> usize
     requires { ⌜ (n ≤ length (now sends)) × (n ≤ length (now receives)) × (61 + 61 * n ≤ length (now part)) ⌝ }
-    ensures { λ r. ⌜ r ≡ length (firstLine finish moves tight ++ boardLines (λ b. getD (now (sends .entry)) b 0) (λ b. getD (now (receives .entry)) b 0) n) ⌝ }
-    ensures { λ _. ⌜ now (part .exit) ≡ over (firstLine finish moves tight ++ boardLines (λ b. getD (now (sends .entry)) b 0) (λ b. getD (now (receives .entry)) b 0) n) (now (part .entry)) ⌝ }
+    ensures { λ r. ⌜ r ≡ length (firstLine finish moves tight ++ boardLines (each (now (sends .entry))) (each (now (receives .entry))) n) ⌝ }
+    ensures { λ _. ⌜ now (part .exit) ≡ over (firstLine finish moves tight ++ boardLines (each (now (sends .entry))) (each (now (receives .entry))) n) (now (part .entry)) ⌝ }
 {
     let at = put_first(part, finish, moves, tight);
     at + put_boards(&mut part[at..], n, sends, receives)

@@ -2,16 +2,15 @@
 -- document 01 that it is.
 use mathlib.Core.Path.{_≡_}
 use mathlib.Core.List.{List}
-use Prim.Native.Nat.{ℕ, suc, _+_, _-_, _≤_, _<_, max}
+use Prim.Native.Nat.{ℕ, suc, _+_, _-_, _≤_, _<_}
 use native.Mathlib.Omega.{arith}
-use lib.Dec.{ltb}
 use lib.IntN.{natAbs}
 use lib.ListN.{length}
-use Rattle.ring.specs.Numbers.{pick, sum}
+use Rattle.ring.specs.Numbers.{sum}
 use Rattle.ring.specs.Lists.{EachTwo}
-use Rattle.ring.specs.Boards.{Ring, Accepted, prev}
-use Rattle.ring.specs.Schedule.{Send, Valid, ends, sentBefore, receivedBy, loadAt, inFlight, finish}
-use Rattle.ring.specs.Plan.{Waits, InOrder, f, carries, startOf, sendOf, plan, finishOf, moves}
+use Rattle.ring.specs.Boards.{Ring, Accepted}
+use Rattle.ring.specs.Schedule.{Send, Valid, sentBefore, receivedBy, loadAt, inFlight, finish}
+use Rattle.ring.specs.Plan.{Waits, InOrder, f, carries, startOf, plan, finishOf, moves}
 use Rattle.ring.proofs.Best.{valid, ends-at, least-finish}
 use Rattle.ring.proofs.Waiting.{waits, one-rule}
 use Rattle.ring.proofs.Moves.{as-many, sizes, ordered}
@@ -35,9 +34,7 @@ module _ (r : Ring) (ok : Accepted r) where
   module _ (one : r .kind ≡ 3 → ⊥) where
     -- "Send j on link i starts as soon as it can: the later of the end of send j − 1 on link i (0 if j = 1) and, if j is more than the
     -- load of board i, the end of send (j − load) on link i − 1." Here of send j + 1
-    pub starts-wait : (i j : ℕ) → i < r .n → j < carries r i
-        → startOf r i (suc j)
-        ≡ max (pick (ltb 0 j) (ends r (sendOf r i j)) 0) (pick (ltb (r .load i) (suc j)) (ends r (sendOf r (prev r i) (suc j - r .load i))) 0)
+    pub starts-wait : Waits r (startOf r)
     starts-wait = waits r ok one
 
     -- "The link after which S is least carries nothing, so the rule has a first link to stand on.": no other starts keep the rule

@@ -1,17 +1,17 @@
 -- Levels: what each board adds, the least and the greatest, that none is far from another, and that a level is document 01's S.
 use mathlib.Core.Path.{_≡_, refl, sym, ap, _∙_}
 use mathlib.Core.Logic.{_⊎_, inl, inr}
-use Prim.Native.Nat.{ℕ, zero, suc, _+_, _-_, _/_, _≤_, _<_}
+use Prim.Native.Nat.{ℕ, zero, suc, _+_, _-_, _/_, _≤_, _<_, max}
 use native.Mathlib.Decide.{ℕ-discrete}
 use native.Mathlib.Omega.{arith}
-use lib.IntN.{ℤ, pos, _+ℤ_, _-ℤ_, +ℤ-assoc}
+use lib.IntN.{ℤ, pos, natAbs, _+ℤ_, _-ℤ_, +ℤ-assoc}
 use borrow.Author.Tests.{eq-eqb, ne-eqb}
 use Rattle.ring.specs.Numbers.{sum, sumℤ}
 use Rattle.ring.specs.Boards.{Ring, Accepted, prev}
-use Rattle.ring.specs.Plan.{surplus, S, f, level, low, high, R, offset, ahead, behind, carries}
+use Rattle.ring.specs.Plan.{surplus, surplusSize, S, f, level, low, high, R, offset, ahead, behind, carries}
 use Rattle.ring.proofs.Tests.{le-lt}
 use Rattle.ring.proofs.Neighbours.{prev-below}
-use Rattle.ring.proofs.Signed.{regroup, difference}
+use Rattle.ring.proofs.Signed.{regroup, difference, size}
 use Rattle.ring.proofs.Sums.{sum-mono, least-le, le-greatest, least-at, greatest-at}
 
 -- two ways, or one
@@ -42,6 +42,19 @@ module _ (r : Ring) where
   pub f-is : (i : ℕ) → f r i ≡ pos (level r i) -ℤ pos (offset r)
   unfolding ahead behind
   f-is i = difference (level r i - offset r) (offset r - level r i) (level r i) (offset r) (omega arith)
+
+  -- f(i) is S(i) less the offset, both raised by the items of the ring
+  pub f-is-S : (i : ℕ) → i < r .n → f r i ≡ (S r i +ℤ pos (sum (r .after) (r .n))) -ℤ pos (offset r)
+  f-is-S i h = f-is i ∙ ap (λ (z : ℤ). z -ℤ pos (offset r)) (level-is-S i h)
+
+  -- |surplus|
+  pub size-is : (i : ℕ) → surplusSize r i ≡ natAbs (surplus r i)
+  size-is i =
+      let x : ℕ = r .load i - r .after i in
+      let y : ℕ = r .after i - r .load i in
+      let none : (x ≡ 0) ⊎ (y ≡ 0) = elim (le-lt (r .load i) (r .after i)) [ inl h ↦ inl (omega arith) | inr h ↦ inr (omega arith) ] in
+      let both : max x y ≡ x + y = omega arith in
+      both ∙ size x y none ∙ ap natAbs (difference x y (r .load i) (r .after i) (omega arith))
 
   -- f(i) has one sign
   pub one-sign : (i : ℕ) → (ahead r i ≡ 0) ⊎ (behind r i ≡ 0)
@@ -76,6 +89,13 @@ module _ (r : Ring) where
     pub high-at : (i : ℕ) × (i < r .n) × (level r i ≡ high r)
     unfolding high
     high-at = let (i, p, q) = greatest-at (level r) (r .n - 1) in (i, omega (arith, ok .boards), q)
+
+    -- the least S, and the greatest, raised by the items of the ring
+    pub low-is-S : (i : ℕ) × (i < r .n) × (pos (low r) ≡ S r i +ℤ pos (sum (r .after) (r .n)))
+    low-is-S = let (i, h, e) = low-at in (i, h, ap pos (sym e) ∙ level-is-S i h)
+
+    pub high-is-S : (i : ℕ) × (i < r .n) × (pos (high r) ≡ S r i +ℤ pos (sum (r .after) (r .n)))
+    high-is-S = let (i, h, e) = high-at in (i, h, ap pos (sym e) ∙ level-is-S i h)
 
     -- two levels differ by no more than the items of the ring
     pub near : (i k : ℕ) → i < r .n → k < r .n → level r i ≤ level r k + sum (r .load) (r .n)

@@ -24,6 +24,11 @@ difference x y a b e =
     swap : (u v w : ℤ) → (u +ℤ v) +ℤ w ≡ (u +ℤ w) +ℤ v
     swap u v w = +ℤ-assoc u v w ∙ (ap (λ (z : ℤ). u +ℤ z) (+ℤ-comm v w) ∙ sym (+ℤ-assoc u w v))
 
+-- what was taken off is what is missing
+pub taken-off : (l z b : ℤ) → b ≡ l -ℤ z → l -ℤ b ≡ z
+taken-off l z b e =
+    ap (λ (x : ℤ). x -ℤ b) (sym (ap (λ (y : ℤ). y +ℤ z) e ∙ -ℤ-+ℤ-cancel l z) ∙ +ℤ-comm b z) ∙ +ℤ-negℤ-cancel z b
+
 -- the size of a difference of which one side is 0
 pub size : (a b : ℕ) → (a ≡ 0) ⊎ (b ≡ 0) → a + b ≡ natAbs (pos a -ℤ pos b)
 size a zero z = omega arith

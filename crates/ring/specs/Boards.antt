@@ -17,7 +17,7 @@ pub record Ring : Type 0 where
   pub after : ℕ → ℕ
   pub cost : ℕ → ℕ
 
--- the ring of a job's numbers: the load after is load − surplus
+-- the ring of a job's numbers: the load after is load − surplus. Where that is below 0, which refusal 8 keeps out, it is its size
 abbrev pub ringOf : ℕ → ℕ → (ℕ → ℕ) → (ℕ → ℤ) → (ℕ → ℕ) → Ring
 ringOf kind n load surplus cost =
     record { kind = kind; n = n; load = load; after = λ i. natAbs (pos (load i) -ℤ surplus i); cost = cost }
@@ -36,13 +36,15 @@ module _ (r : Ring) where
   prev zero = r .n - 1
   prev (suc i) = i
 
--- the limits: a load, and a load after, is 1 to 4,095; a cost 1 to 8,000
+-- the limits: a load, and a load after, is 1 to 4,095
 abbrev pub mostLoad : ℕ
 mostLoad = 4095
 
+-- and a cost 1 to 8,000
 abbrev pub mostCost : ℕ
 mostCost = 8000
 
+-- lo to hi, both among them
 abbrev pub Within : ℕ → ℕ → ℕ → Type 0
 Within lo hi x = (lo ≤ x) × (x ≤ hi)
 
@@ -50,7 +52,7 @@ Within lo hi x = (lo ≤ x) × (x ≤ hi)
 abbrev pub OneCost : ℕ → Type 0
 OneCost kind = (kind ≡ 1) ⊎ (kind ≡ 3)
 
--- what a ring is that none of refusals 4 to 11 meets
+-- what a ring is that refusals 4 to 11 let through; `after` has no sign, so a negative load − surplus is for refusal 8 alone to see
 pub record Accepted (r : Ring) : Type 0 where
   pub kinds : Within 1 3 (r .kind)
   pub boards : Within 2 128 (r .n)

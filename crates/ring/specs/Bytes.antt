@@ -3,16 +3,18 @@ use mathlib.Core.List.{List, [], _∷_, _++_}
 use Prim.Native.Nat.{ℕ, _+_, _*_, _/_, _%_}
 use lib.ListN.{getD}
 
--- the 16 bits, and the 32 bits, at place k
+-- the 16 bits at place k
 abbrev pub halfAt : List ℕ → ℕ → ℕ
 halfAt s k = getD s k 0 * 256 + getD s (k + 1) 0
 
+-- the 32 bits at place k
 abbrev pub wordAt : List ℕ → ℕ → ℕ
 wordAt s k = halfAt s k * 65536 + halfAt s (k + 2)
 
--- the bytes of a number's low 16 bits, and of its low 32 bits
+-- the bytes of a number's low 16 bits
 abbrev pub halfBytes : ℕ → List ℕ
 halfBytes x = (x / 256 % 256) ∷ (x % 256) ∷ []
 
+-- the bytes of its low 32 bits
 abbrev pub wordBytes : ℕ → List ℕ
 wordBytes x = halfBytes (x / 65536) ++ halfBytes x

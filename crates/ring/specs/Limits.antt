@@ -16,7 +16,7 @@ outside lo hi x a b = pick (ltb x lo) a (pick (ltb hi x) a b)
 abbrev pub outsideℤ : {A : Type 0} → ℤ → ℤ → ℤ → A → A → A
 outsideℤ lo hi x a b = pick (ltZ x lo) a (pick (ltZ hi x) a b)
 
--- the cost's limits, or the board
+-- Cost where the cost is outside its limits, else the board
 abbrev pub costOf : ℕ → ℤ → ℕ → Made
 costOf load surplus cost = outside 1 mostCost cost Cost (Sound (record { load = load; surplus = surplus; cost = cost }))
 

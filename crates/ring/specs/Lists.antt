@@ -43,5 +43,6 @@ fill g (suc k) xs = set (fill g k xs) k (g k)
 abbrev pub each : List ℕ → ℕ → ℕ
 each xs i = getD xs i 0
 
+-- the same of signed numbers
 abbrev pub eachℤ : List ℤ → ℕ → ℤ
 eachℤ xs i = getD xs i (pos 0)

@@ -1,12 +1,12 @@
 -- Document 01, "The plan": how many items each link carries, which way, when each send starts, and when the last one ends.
 use mathlib.Core.Path.{_≡_}
 use mathlib.Core.Logic.{_⊎_}
-use mathlib.Core.List.{List, [], _∷_}
+use mathlib.Core.List.{List}
 use Prim.Native.Nat.{ℕ, zero, suc, _+_, _*_, _-_, _/_, _<_, max}
 use lib.Dec.{eqb, ltb}
 use lib.IntN.{ℤ, pos, _-ℤ_}
 use Rattle.ring.specs.Numbers.{pick, sum, sumℤ, least, greatest, peak}
-use Rattle.ring.specs.Lists.{joined}
+use Rattle.ring.specs.Lists.{joined, upTo}
 use Rattle.ring.specs.Boards.{Ring, prev}
 use Rattle.ring.specs.Schedule.{Send}
 
@@ -34,24 +34,27 @@ module _ (r : Ring) where
   unfoldable pub level : ℕ → ℕ
   level i = sum (r .load) (suc i) + (sum (r .after) (r .n) - sum (r .after) (suc i))
 
-  -- the least and the greatest of them, and R
+  -- the least of them
   unfoldable pub low : ℕ
   low = least level (r .n - 1)
 
+  -- the greatest of them
   unfoldable pub high : ℕ
   high = greatest level (r .n - 1)
 
+  -- high − low
   abbrev pub R : ℕ
   R = high - low
 
-  -- the number taken from every S: low in kinds 1 and 2, low + floor(R / 2) in kind 3
+  -- the number taken from every level, so document 01's offset raised as S is: low in kinds 1 and 2, low + floor(R / 2) in kind 3
   unfoldable pub offset : ℕ
   offset = pick (eqb (r .kind) 3) (low + R / 2) low
 
-  -- f(i) where it is positive, the sends forward, and −f(i) where it is negative, the sends back; one of the two is 0
+  -- f(i) where it is positive: the sends forward
   unfoldable pub ahead : ℕ → ℕ
   ahead i = level i - offset
 
+  -- −f(i) where it is negative: the sends back. One of the two is 0
   unfoldable pub behind : ℕ → ℕ
   behind i = offset - level i
 
@@ -97,7 +100,7 @@ module _ (r : Ring) where
 
   -- the first k sends of link i
   abbrev pub linkSends : ℕ → ℕ → List Send
-  linkSends i k = joined (λ j. sendOf i (suc j) ∷ []) k
+  linkSends i k = upTo (λ j. sendOf i (suc j)) k
 
   -- the sends of the links below k, by link upward, then by start
   abbrev pub sendsBelow : ℕ → List Send
@@ -119,11 +122,13 @@ module _ (r : Ring) where
   unfoldable pub tight : ℕ
   tight = peak carries (r .n - 1)
 
-  -- the rule of waiting in the document's words, of any starts: send j + 1 of link i starts at the later of the end of send j on link
-  -- i (0 if there is none) and, if j + 1 is more than the load of board i, the end of send (j + 1 − load) on the link before
+  -- of any starts, the end of the send that send j of link i waits for: of send j − load on the link before if j is more than the load of
+  -- board i, else 0
   abbrev pub fed : (ℕ → ℕ → ℕ) → ℕ → ℕ → ℕ
   fed start i j = pick (ltb (r .load i) j) (start (prev r i) (j - r .load i) + r .cost (prev r i)) 0
 
+  -- the rule of waiting in the document's words, of any starts: send j + 1 of link i starts at the later of the end of send j on link i (0 if
+  -- there is none) and the end of the send that it waits for
   abbrev pub Waits : (ℕ → ℕ → ℕ) → Type 0
   Waits start =
       (i j : ℕ) → i < r .n → j < carries i → start i (suc j) ≡ max (pick (ltb 0 j) (start i j + r .cost i) 0) (fed start i (suc j))

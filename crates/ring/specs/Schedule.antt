@@ -19,10 +19,11 @@ abbrev pub MayStart : ℕ → Type 0
 MayStart load = 1 ≤ load
 
 module _ (r : Ring) where
-  -- the board that sends, and the one that receives: link i joins board i to the next
+  -- the board that sends: link i joins board i to the next
   abbrev pub sender : Send → ℕ
   sender s = pick (eqb (s .way) 0) (s .link) (next r (s .link))
 
+  -- the board that receives
   abbrev pub receiver : Send → ℕ
   receiver s = pick (eqb (s .way) 0) (next r (s .link)) (s .link)
 

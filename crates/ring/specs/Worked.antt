@@ -69,6 +69,7 @@ holds r (bytes k) = eqb (15 + 6 * length (plan r)) k
 holds r (sent k) = both (eqb (moves r) k) (eqb (length (plan r)) k)
 holds r (tightest i) = eqb (tight r) i
 
+-- all that is said of each ring holds
 abbrev pub allHold : List Row → Bool
 allHold rows = every (map (λ (w : Row). every (map (holds (w .ring)) (w .says))) rows)
 
@@ -77,6 +78,7 @@ abbrev pub minus : ℕ → ℤ
 minus zero = pos 0
 minus (suc k) = negsuc k
 
+-- natural numbers as signed ones
 abbrev pub ints : List ℕ → List ℤ
 ints xs = map pos xs
 

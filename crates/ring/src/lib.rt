@@ -1,3 +1,4 @@
+// The leaves that all else stands on: items and ticks, the time of a link, and a board within its limits.
 ghost use mathlib.Core.Path.{_≡_};
 ghost use Prim.Native.Nat.{_*_};
 ghost use Rattle.ring.specs.Limits.{boardOf, faultOf};
@@ -14,7 +15,7 @@ pub fn link_time(cost: u16, items: Items) -> Ticks
     Ticks((cost as u64) * (items.0 as u64))
 }
 
-// A board within the limits. Its link is the one to the next board.
+// A board's numbers; `new` makes only boards within the limits. Its link is the one to the next board.
 pub struct Board {
     pub load: u16,
     pub surplus: i16,
@@ -30,6 +31,7 @@ pub enum Made {
 }
 
 impl Board {
+    // The limits; those of the load after are signed, as load − surplus is.
     pub const LEAST: u16 = 1;
 
     pub const MOST_LOAD: u16 = 4095;

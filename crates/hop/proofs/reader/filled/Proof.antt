@@ -14,7 +14,7 @@ use Rattle.ring.specs.Lists.{fill}
 use Rattle.ring.specs.Bytes.{halfAt}
 use Rattle.hop.specs.declared.Check.the-variants.{Ring}
 use Rattle.hop.specs.declared.Job.{Job}
-use Rattle.hop.specs.Read.{loadAt, surplusAt, costAt}
+use Rattle.hop.specs.Read.{loadIn, surplusIn, costIn}
 use borrow.Author.Needs.{needs}
 use Rattle.hop.proofs.reader.filled.Statement.{statement}
 use Rattle.hop.proofs.reader.filled.Tie as tie
@@ -24,9 +24,9 @@ abbrev so-far : List ℕ → ℕ → ℕ → ℕ → Job
 so-far s kind n i =
     record {
       answer = Ring kind n;
-      loads = fill (loadAt s) i (replicate 128 0);
-      surpluses = fill (surplusAt s) i (replicate 128 (pos 0));
-      costs = fill (costAt s) i (replicate 128 0);
+      loads = fill (loadIn s) i (replicate 128 0);
+      surpluses = fill (surplusIn s) i (replicate 128 (pos 0));
+      costs = fill (costIn s) i (replicate 128 0);
     }
 
 abbrev Inv-loop : tie.InvT-loop
