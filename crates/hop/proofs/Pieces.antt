@@ -1,11 +1,11 @@
--- Lists made of pieces of six: their length and their elements; and a list's first elements, one by one. Assumes nothing.
-use mathlib.Core.Path.{_≡_, refl, ap, _∙_}
-use mathlib.Core.List.{List, [], _∷_, _++_}
+-- Lists made of pieces of six: their length and their elements. Assumes nothing.
+use mathlib.Core.Path.{_≡_, refl, _∙_}
+use mathlib.Core.List.{List}
 use mathlib.Core.Logic.{inl, inr}
-use Prim.Native.Nat.{ℕ, zero, suc, _+_, _*_, _≤_, _<_}
+use Prim.Native.Nat.{ℕ, zero, suc, _+_, _*_, _<_}
 use native.Mathlib.Omega.{arith}
-use lib.ListN.{length, getD, take, length-append, List·getD-append}
-use lib.Seq.{getD-append-add, take-suc}
+use lib.ListN.{length, getD, length-append, List·getD-append}
+use lib.Seq.{getD-append-add}
 use Rattle.ring.specs.Lists.{joined}
 use Rattle.ring.proofs.Tests.{le-lt}
 
@@ -26,9 +26,3 @@ module _ (g : ℕ → List ℕ) (long : (i : ℕ) → length (g i) ≡ 6) where
             rw (q, ← joined-long k) (getD-append-add (joined g k) (g k) j 0)
         | inr l ↦ List·getD-append (joined g k) (g k) 0 (6 * i + j) (omega (arith, joined-long k)) ∙ joined-at k i j l w
       ]
-
--- the first k elements, one by one
-pub first : (k : ℕ) (xs : List ℕ) → k ≤ length xs → take k xs ≡ joined (λ j. getD xs j 0 ∷ []) k
-unfolding joined
-first zero xs h = refl
-first (suc k) xs h = take-suc xs k 0 (omega arith) ∙ ap (λ (l : List ℕ). l ++ getD xs k 0 ∷ []) (first k xs (omega arith))

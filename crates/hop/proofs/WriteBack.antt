@@ -12,7 +12,7 @@ use Rattle.ring.specs.Lists.{joined}
 use Rattle.ring.specs.Bytes.{halfAt, halfBytes}
 use Rattle.hop.specs.Read.{jobLength, loadIn, surplusIn, costIn}
 use Rattle.hop.specs.Write.{headBytes, boardBytes, jobBytes}
-use Rattle.hop.proofs.Pieces.{first}
+use Rattle.ring.proofs.Joined.{first-of}
 use Rattle.hop.proofs.Reading.{Headed}
 
 two : (a b : ℕ) → a < 256 → b < 256 → halfBytes (a * 256 + b) ≡ a ∷ b ∷ []
@@ -34,7 +34,7 @@ module _ (s : List ℕ) (bytes : (i : ℕ) → getD s i 0 < 256) where
       let at : (m j : ℕ) → m ≡ p + j → getD s m 0 ≡ getD (drop p s) j 0 = λ m j e. ap (λ (x : ℕ). getD s x 0) e ∙ sym (getD-drop p s j 0) in
       (λ t. half-bytes p t ++ (ap halfBytes z ∙ half-bytes (p + 2)) t ++ half-bytes (p + 4) t)
       ∙ (λ t. at p 0 (omega arith) t ∷ at (p + 1) 1 refl t ∷ at (p + 2) 2 refl t ∷ at (p + 2 + 1) 3 (omega arith) t ∷ at (p + 4) 4 refl t ∷ at (p + 4 + 1) 5 (omega arith) t ∷ [])
-      ∙ sym (first 6 (drop p s) (simp length-drop (omega arith)))
+      ∙ sym (first-of 0 6 (drop p s) (simp length-drop (omega arith)))
 
   module _ (k n : ℕ) (h : Headed s k n) where
     head-bytes : headBytes k n ≡ take 7 s
@@ -43,7 +43,7 @@ module _ (s : List ℕ) (bytes : (i : ℕ) → getD s i 0 < 256) where
         let zero-is : 0 ≡ getD s 3 0 = omega (arith, h .version) in
         let one-is : 1 ≡ getD s 4 0 = omega (arith, h .version) in
         (λ t. sym (h .h) t ∷ sym (h .o) t ∷ sym (h .p) t ∷ zero-is t ∷ one-is t ∷ sym (h .kind-is) t ∷ sym (h .n-is) t ∷ [])
-        ∙ sym (first 7 s (omega (arith, h .whole)))
+        ∙ sym (first-of 0 7 s (omega (arith, h .whole)))
 
     up-to : (i : ℕ) → i ≤ n → headBytes k n ++ joined (boardBytes (loadIn s) (surplusIn s) (costIn s)) i ≡ take (jobLength i) s
     unfolding joined

@@ -1,6 +1,5 @@
 pub mod Counted
 pub mod Records
-pub mod PlanRecords
 pub mod Asked
 pub mod Told
 pub mod OneAnswer

@@ -8,7 +8,8 @@ use Rattle.ring.specs.Numbers.{one-if}
 use Rattle.ring.specs.Lists.{joined}
 use Rattle.ring.specs.Schedule.{sender, receiver, ends}
 use Rattle.ring.specs.Bytes.{wordAt}
-use Rattle.loads.specs.Counts.{recordPlace, recordAt, recordsIn, linksIn, countsOf}
+use Rattle.planner.specs.PlanBytes.{recordPlace, recordAt, recordsIn}
+use Rattle.loads.specs.Counts.{linksIn, countsOf}
 use Rattle.loads.proofs.Counted.{Between, none-counted, Step, step}
 
 -- the two lists hold the counts of the first k records

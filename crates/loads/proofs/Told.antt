@@ -23,15 +23,14 @@ use Rattle.hop.specs.Read.{jobOf}
 use Rattle.ring.proofs.Fill.{fill-same}
 use Rattle.hop.proofs.Accepted.{job-accepted, arrays}
 use Rattle.planner.specs.declared.Planned.the-variants.{Plan}
-use Rattle.planner.specs.PlanBytes.{planBytes}
+use Rattle.planner.specs.PlanBytes.{planBytes, recordPlace, recordsIn}
 use Rattle.planner.specs.Answer.{planAnswer, planMemory}
 use Rattle.planner.proofs.Bytes.{head-long, records-long}
-use Rattle.planner.proofs.ReadBack.{Fitting, fitting}
+use Rattle.planner.proofs.ReadBack.{Fitting, fitting, plan-read, link-read}
 use Rattle.loads.specs.declared.Counts.{Counts}
-use Rattle.loads.specs.Counts.{recordPlace, recordsIn, linksIn, countsOf, leftWith, Covered}
+use Rattle.loads.specs.Counts.{linksIn, countsOf, leftWith, Covered}
 use Rattle.loads.specs.Query.{loadsBy}
 use Rattle.loads.proofs.Counted.{count-most}
-use Rattle.loads.proofs.PlanRecords.{plan-read, link-read}
 use Rattle.loads.proofs.Asked.{written}
 
 -- m records in a buffer, for n boards of these loads and costs: with what was counted of them, `whole` holds the loads
@@ -50,11 +49,11 @@ module _ (kind n : ℕ) (loads : List ℕ) (surpluses : List ℤ) (costs : List 
       let r = ringIn kind n loads surpluses costs in
       fitting r (omega (arith, ok .boards)) (plan r) (valid r ok .allowed) (omega (arith, ends-at r ok, finish-most r ok))
 
-  told-ring : length loads ≡ 128 → length costs ≡ 128
+  told-ring : length costs ≡ 128
       → let r = ringIn kind n loads surpluses costs in
       Told n loads costs (planBytes r ++ rest) (moves r) (fill (λ i. loadAt r (plan r) i tick) n) (countsOf (linksIn n costs) (recordsIn (planBytes r ++ rest) (moves r)) tick)
   unfolding loadAt
-  told-ring ll cl =
+  told-ring cl =
       let r = ringIn kind n loads surpluses costs in
       let σ = plan r in
       let zeros : List ℕ = replicate 128 0 in
@@ -83,4 +82,4 @@ told s xs tick {k} {n} is e p q =
     let long = arrays s k n is in
     let w = written (jobOf s) xs is e in
     rw (p, q, w .bytes, ← (w .moves-is), is)
-    (told-ring k n (jobOf s .loads) (jobOf s .surpluses) (jobOf s .costs) ok _ tick (long .0) (long .2))
+    (told-ring k n (jobOf s .loads) (jobOf s .surpluses) (jobOf s .costs) ok _ tick (long .2))

@@ -1,26 +1,12 @@
 -- Inner: cited by the contracts of the query's inner functions only. What the query promises is in Query.
--- The sends that a plan's bytes say, and what each board has received and sent of them by a tick.
+-- What each board has received and sent by a tick, of a list of sends.
 use mathlib.Core.List.{List, []}
-use Prim.Native.Nat.{ℕ, _+_, _*_, _-_, _≤_, _<_}
-use lib.ListN.{getD}
-use Rattle.ring.specs.Lists.{each, upTo}
+use Prim.Native.Nat.{ℕ, _+_, _-_, _≤_, _<_}
+use Rattle.ring.specs.Lists.{each}
 use Rattle.ring.specs.Boards.{Ring, ringIn}
 use Rattle.ring.specs.Schedule.{Send, receivedBy, sentBefore}
-use Rattle.ring.specs.Bytes.{wordAt}
 use Rattle.planner.specs.Traffic.{forBoards}
 use Rattle.loads.specs.declared.Counts.{Counts}
-
--- the place of record k
-abbrev pub recordPlace : ℕ → ℕ
-recordPlace k = 15 + 6 * k
-
--- the record at a place
-abbrev pub recordAt : List ℕ → ℕ → Send
-recordAt s at = record { link = getD s at 0; way = getD s (at + 1) 0; start = wordAt s (at + 2) }
-
--- the first k records
-abbrev pub recordsIn : List ℕ → ℕ → List Send
-recordsIn s k = upTo (λ j. recordAt s (recordPlace j)) k
 
 -- n boards and the costs of their links: no receipt and no send depends on more of a ring
 abbrev pub linksIn : ℕ → List ℕ → Ring

@@ -62,7 +62,7 @@ module _ (r : Ring) (ok : Accepted r) (xs : List ℕ) where
       let tail = drop (planLength r) xs in
       let fits = finish-fits r ok in
       let good = plan-is-valid r ok in
-      let back = plan-back r tail (moves-is r ok) few (fitting r (omega (arith, ok .boards)) (plan r) (good .allowed) (omega (arith, finish-is r ok))) in
+      let back = plan-back r (fitting r (omega (arith, ok .boards)) (plan r) (good .allowed) (omega (arith, finish-is r ok))) tail few in
       record {
         answer = refl;
         head = refl;

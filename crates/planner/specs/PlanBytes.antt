@@ -1,8 +1,8 @@
 -- Document 01, "Bytes": the bytes of a plan, and what is read from them.
 use mathlib.Core.List.{List, [], _∷_, _++_}
 use Prim.Native.Nat.{ℕ, _+_, _*_}
-use lib.ListN.{take, drop}
-use Rattle.ring.specs.Lists.{joined}
+use lib.ListN.{getD}
+use Rattle.ring.specs.Lists.{joined, upTo}
 use Rattle.ring.specs.Boards.{Ring}
 use Rattle.ring.specs.Schedule.{Send}
 use Rattle.ring.specs.Plan.{plan, finishOf, moves}
@@ -42,17 +42,18 @@ finishIn s = wordAt s 7
 abbrev pub movesIn : List ℕ → ℕ
 movesIn s = wordAt s 11
 
--- the sends that records say; fewer than six bytes are none
-unfoldable pub sendsIn : List ℕ → List Send
-sendsIn [] = []
-sendsIn (a ∷ []) = []
-sendsIn (a ∷ b ∷ []) = []
-sendsIn (a ∷ b ∷ c ∷ []) = []
-sendsIn (a ∷ b ∷ c ∷ d ∷ []) = []
-sendsIn (a ∷ b ∷ c ∷ d ∷ e ∷ []) = []
-sendsIn (a ∷ b ∷ c ∷ d ∷ e ∷ f ∷ rest) =
-    record { link = a; way = b; start = wordAt (c ∷ d ∷ e ∷ f ∷ []) 0 } ∷ sendsIn rest
+-- the place of record k, from 0
+abbrev pub recordPlace : ℕ → ℕ
+recordPlace k = 15 + 6 * k
 
--- the sends that a plan's bytes say: after the first 15, as many records as its moves
+-- the send that the record at a place says
+abbrev pub recordAt : List ℕ → ℕ → Send
+recordAt s at = record { link = getD s at 0; way = getD s (at + 1) 0; start = wordAt s (at + 2) }
+
+-- the sends that the first k records say
+abbrev pub recordsIn : List ℕ → ℕ → List Send
+recordsIn s k = upTo (λ j. recordAt s (recordPlace j)) k
+
+-- the sends that a plan's bytes say: as many records as its moves
 abbrev pub planIn : List ℕ → List Send
-planIn s = sendsIn (take (6 * movesIn s) (drop 15 s))
+planIn s = recordsIn s (movesIn s)

@@ -1,12 +1,14 @@
 -- Pieces one after the other: when they are the same, the first of them and the others, what holds of each element and of each two, and what
 -- a total over them is. Assumes nothing.
 use mathlib.Core.Path.{_≡_, refl, ap, _∙_}
-use mathlib.Core.List.{List, _++_, append-assoc, append-nil}
-use Prim.Native.Nat.{ℕ, zero, suc, _+_, _<_}
+use mathlib.Core.List.{List, [], _∷_, _++_, append-assoc, append-nil}
+use Prim.Native.Nat.{ℕ, zero, suc, _+_, _≤_, _<_}
 use native.Mathlib.Nat.{add-zero, add-suc}
 use native.Mathlib.Omega.{arith}
+use lib.ListN.{length, getD, take}
+use lib.Seq.{take-suc}
 use Rattle.ring.specs.Numbers.{sum}
-use Rattle.ring.specs.Lists.{Each, EachTwo, total, joined}
+use Rattle.ring.specs.Lists.{Each, EachTwo, total, joined, upTo}
 use Rattle.ring.proofs.Totals.{each-append, two-append, total-append}
 
 pub joined-same : {A : Type 0} (g h : ℕ → List A) (k : ℕ) → ((i : ℕ) → i < k → g i ≡ h i) → joined g k ≡ joined h k
@@ -38,3 +40,9 @@ module _ {A : Type 0} where
   unfolding joined sum total
   total-joined f g zero = refl
   total-joined f g (suc k) = omega (arith, total-append f (joined g k) (g k), total-joined f g k)
+
+  -- the first k elements of a list, one by one
+  pub first-of : (d : A) (k : ℕ) (xs : List A) → k ≤ length xs → take k xs ≡ upTo (λ j. getD xs j d) k
+  unfolding joined
+  first-of d zero xs h = refl
+  first-of d (suc k) xs h = take-suc xs k d (omega arith) ∙ ap (λ (l : List A). l ++ getD xs k d ∷ []) (first-of d k xs (omega arith))

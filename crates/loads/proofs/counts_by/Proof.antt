@@ -5,7 +5,8 @@ use mathlib.Core.Path.{_≡_, ap, _∙_}
 use Prim.Native.Nat.{ℕ, _+_, _-_, _≤_, _<_}
 use native.Mathlib.Omega.{arith}
 use lib.ListN.{getD}
-use Rattle.loads.specs.Counts.{recordPlace, recordsIn, linksIn, countsOf}
+use Rattle.planner.specs.PlanBytes.{recordPlace, recordsIn}
+use Rattle.loads.specs.Counts.{linksIn, countsOf}
 use Rattle.loads.proofs.Counted.{Between, between}
 use Rattle.loads.proofs.Records.{Held, none-held, rooms, one-held}
 use Rattle.loads.proofs.counts_by.Statement.{statement}

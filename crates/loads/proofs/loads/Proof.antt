@@ -6,7 +6,8 @@ use lib.ListN.{length}
 use Rattle.hop.specs.declared.Check.the-variants.{Ring}
 use Rattle.hop.specs.declared.Job.{Job}
 use Rattle.hop.specs.Read.{jobOf}
-use Rattle.loads.specs.Counts.{recordsIn, linksIn, countsOf}
+use Rattle.planner.specs.PlanBytes.{recordsIn}
+use Rattle.loads.specs.Counts.{linksIn, countsOf}
 use Rattle.loads.specs.Query.{boardsOf, loadsBy}
 use Rattle.loads.proofs.Asked.{lacks, answers, unread}
 use Rattle.loads.proofs.Told.{Told, told}
