@@ -10,7 +10,8 @@ use Rattle.ring.specs.Numbers.{sum}
 use Rattle.ring.specs.Lists.{EachTwo}
 use Rattle.ring.specs.Boards.{Ring, Accepted}
 use Rattle.ring.specs.Schedule.{Send, Valid, sentBefore, receivedBy, loadAt, inFlight, finish}
-use Rattle.ring.specs.Plan.{Waits, InOrder, f, carries, startOf, plan, finishOf, moves}
+use Rattle.ring.specs.Bytes.{InOrder}
+use Rattle.ring.specs.Plan.{Waits, f, carries, startOf, plan, finishOf, moves}
 use Rattle.ring.proofs.Best.{valid, ends-at, least-finish}
 use Rattle.ring.proofs.Waiting.{waits, one-rule}
 use Rattle.ring.proofs.Moves.{as-many, sizes, ordered}

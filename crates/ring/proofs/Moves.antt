@@ -8,7 +8,8 @@ use lib.ListN.{length}
 use Rattle.ring.specs.Numbers.{sum}
 use Rattle.ring.specs.Lists.{EachTwo}
 use Rattle.ring.specs.Boards.{Ring, Accepted}
-use Rattle.ring.specs.Plan.{InOrder, f, ahead, behind, carries, plan, moves, tight}
+use Rattle.ring.specs.Bytes.{InOrder}
+use Rattle.ring.specs.Plan.{f, ahead, behind, carries, plan, moves, tight}
 use Rattle.ring.proofs.Tests.{le-lt}
 use Rattle.ring.proofs.Sums.{sum-eq, sum-ones, sum-term, Peak, peak-is}
 use Rattle.ring.proofs.Totals.{total-length}

@@ -12,8 +12,8 @@ use Rattle.ring.proofs.fault.Reads as fault-said
 
 -- of each: lifetimes, the arguments, two answers, and what is lent as the function returns
 pub one-link-time : (κs : Lfts 0) (a : Dens κs link-time.ps) (x y : resT link-time.r κs .Denot) (s t : AtExit (endedOf 0 link-time.ps link-time.r) κs)
-    → link-time-said.Post κs a x s → link-time-said.Post κs a y t → x .0 ≡ y .0
-one-link-time κs a x y s t p q = p ∙ sym q
+    → link-time-said.Post κs a x s → link-time-said.Post κs a y t → x ≡ y
+one-link-time κs a x y s t p q = λ i. record { 0 = (p ∙ sym q) i }
 
 pub one-new : (κs : Lfts 0) (a : Dens κs new.ps) (x y : resT new.r κs .Denot) (s t : AtExit (endedOf 0 new.ps new.r) κs)
     → new-said.Post κs a x s → new-said.Post κs a y t → x ≡ y

@@ -31,7 +31,6 @@ pub record Sane (l : ℕ) (z : ℤ) (c : ℕ) : Type 0 where
   pub after-is : pos (natAbs (pos l -ℤ z)) ≡ pos l -ℤ z
   pub cost-least : 1 ≤ c
   pub cost-most : c ≤ 8000
-  pub is : boardOf l z c ≡ Sound (record { load = l; surplus = z; cost = c })
 
 -- a board with no fault has each number within its limits
 pub sane : (l : ℕ) (z : ℤ) (c : ℕ) → faultOf (boardOf l z c) ≡ 0 → Sane l z c
@@ -52,5 +51,4 @@ sane l z c e =
       after-is = w .2;
       cost-least = ltb-false c 1 (r .0);
       cost-most = ltb-false 8000 c (r .1);
-      is = p .2 ∙ q .2 ∙ r .2;
     }

@@ -1,7 +1,10 @@
--- Document 01, "Bytes": all numbers big-endian.
+-- Document 01, "Bytes": all numbers big-endian, and the order of records.
+use mathlib.Core.Path.{_≡_}
+use mathlib.Core.Logic.{_⊎_}
 use mathlib.Core.List.{List, [], _∷_, _++_}
-use Prim.Native.Nat.{ℕ, _+_, _*_, _/_, _%_}
+use Prim.Native.Nat.{ℕ, _+_, _*_, _/_, _%_, _<_}
 use lib.ListN.{getD}
+use Rattle.ring.specs.Schedule.{Send}
 
 -- the 16 bits at place k
 abbrev pub halfAt : List ℕ → ℕ → ℕ
@@ -18,3 +21,7 @@ halfBytes x = (x / 256 % 256) ∷ (x % 256) ∷ []
 -- the bytes of its low 32 bits
 abbrev pub wordBytes : ℕ → List ℕ
 wordBytes x = halfBytes (x / 65536) ++ halfBytes x
+
+-- plan order: by link upward, then by start upward, then by direction, forward first; no two are alike
+abbrev pub InOrder : Send → Send → Type 0
+InOrder s t = (s .link < t .link) ⊎ ((s .link ≡ t .link) × ((s .start < t .start) ⊎ ((s .start ≡ t .start) × (s .way < t .way))))

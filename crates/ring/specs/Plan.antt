@@ -1,6 +1,5 @@
 -- Document 01, "The plan": how many items each link carries, which way, when each send starts, and when the last one ends.
 use mathlib.Core.Path.{_≡_}
-use mathlib.Core.Logic.{_⊎_}
 use mathlib.Core.List.{List}
 use Prim.Native.Nat.{ℕ, zero, suc, _+_, _*_, _-_, _/_, _<_, max}
 use lib.Dec.{eqb, ltb}
@@ -15,10 +14,6 @@ use Rattle.ring.specs.Schedule.{Send}
 unfoldable pub endsAfter : (ℕ → ℕ) → ℕ → ℕ → ℕ → ℕ
 endsAfter before cost load zero = 0
 endsAfter before cost load (suc j) = max (endsAfter before cost load j) (before (suc j - load)) + cost
-
--- plan order: by link upward, then by start upward, then by direction, forward first; no two are alike
-abbrev pub InOrder : Send → Send → Type 0
-InOrder s t = (s .link < t .link) ⊎ ((s .link ≡ t .link) × ((s .start < t .start) ⊎ ((s .start ≡ t .start) × (s .way < t .way))))
 
 module _ (r : Ring) where
   -- board i's surplus: load − load after
@@ -75,6 +70,17 @@ module _ (r : Ring) where
   abbrev pub endOf : ℕ → ℕ → ℕ
   endOf = endBack (r .n)
 
+  -- of any starts, the end of the send that send j of link i waits for: of send j − load on the link before if j is more than the load of
+  -- board i, else 0
+  abbrev pub fed : (ℕ → ℕ → ℕ) → ℕ → ℕ → ℕ
+  fed start i j = pick (ltb (r .load i) j) (start (prev r i) (j - r .load i) + r .cost (prev r i)) 0
+
+  -- the rule of waiting in the document's words, of any starts: send j + 1 of link i starts at the later of the end of send j on link i (0 if
+  -- there is none) and the end of the send that it waits for
+  abbrev pub Waits : (ℕ → ℕ → ℕ) → Type 0
+  Waits start =
+      (i j : ℕ) → i < r .n → j < carries i → start i (suc j) ≡ max (pick (ltb 0 j) (start i j + r .cost i) 0) (fed start i (suc j))
+
   -- |surplus| of board i
   abbrev pub surplusSize : ℕ → ℕ
   surplusSize i = max (r .load i - r .after i) (r .after i - r .load i)
@@ -121,14 +127,3 @@ module _ (r : Ring) where
   -- the lowest-numbered link carrying the most items, link 0 where there are no moves
   unfoldable pub tight : ℕ
   tight = peak carries (r .n - 1)
-
-  -- of any starts, the end of the send that send j of link i waits for: of send j − load on the link before if j is more than the load of
-  -- board i, else 0
-  abbrev pub fed : (ℕ → ℕ → ℕ) → ℕ → ℕ → ℕ
-  fed start i j = pick (ltb (r .load i) j) (start (prev r i) (j - r .load i) + r .cost (prev r i)) 0
-
-  -- the rule of waiting in the document's words, of any starts: send j + 1 of link i starts at the later of the end of send j on link i (0 if
-  -- there is none) and the end of the send that it waits for
-  abbrev pub Waits : (ℕ → ℕ → ℕ) → Type 0
-  Waits start =
-      (i j : ℕ) → i < r .n → j < carries i → start i (suc j) ≡ max (pick (ltb 0 j) (start i j + r .cost i) 0) (fed start i (suc j))
