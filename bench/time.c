@@ -1,5 +1,5 @@
-/* Times the library's planner against the plain one on the same jobs, in the same run. Both plans are first made in buffers filled alike and held
-   to be the same bytes; the buffers are not cleared between the calls that are timed. */
+/* Times the library's planner against the plain one on the same jobs, in the same run. Both plans are first made in buffers filled alike
+   and held to be the same bytes; the buffers are not cleared between the calls that are timed. */
 #include "../include/fallowroe.h"
 #include "plain.h"
 
