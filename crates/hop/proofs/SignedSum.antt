@@ -1,6 +1,5 @@
 -- A running sum of 16-bit signed numbers, as 32 bits hold it. Assumes nothing.
 use mathlib.Core.Path.{_≡_, refl, ap}
-use mathlib.Core.Bool.{Bool, true, false, cond}
 use Prim.Native.Nat.{ℕ, suc, _+_, _*_, _-_, _<_, _≤_}
 use native.Mathlib.Omega.{arith}
 use native.Mathlib.Numerals.{add-one}
@@ -11,20 +10,13 @@ use mir.Syntax.{w16, w32}
 use mir.Val.{toZ, ofZ, SFits}
 use mir.Facts.{toZ-ofZ}
 use Rattle.ring.specs.Numbers.{sumℤ}
-
-cond-le : (b : Bool) (x y k : ℕ) → x ≤ k → y ≤ k → mag (cond b (negsuc x) (pos y)) ≤ k
-cond-le true x y k hx hy = hx
-cond-le false x y k hx hy = hy
+use Rattle.ring.proofs.After.{mag-cond, narrow}
 
 mag-add : (a b : ℤ) → mag (a +ℤ b) ≤ mag a + mag b + 1
 mag-add (pos a) (pos b) = omega arith
-mag-add (pos a) (negsuc b) = cond-le (ltb a (suc b)) (suc b - suc a) (a - suc b) (a + b + 1) (omega arith) (omega arith)
-mag-add (negsuc a) (pos b) = cond-le (ltb b (suc a)) (suc a - suc b) (b - suc a) (a + b + 1) (omega arith) (omega arith)
+mag-add (pos a) (negsuc b) = omega (arith, mag-cond (ltb a (suc b)) (suc b - suc a) (a - suc b) (a + b + 2) (omega arith) (omega arith))
+mag-add (negsuc a) (pos b) = omega (arith, mag-cond (ltb b (suc a)) (suc a - suc b) (b - suc a) (a + b + 2) (omega arith) (omega arith))
 mag-add (negsuc a) (negsuc b) = omega arith
-
--- a 16-bit number fits 32 bits
-pub wide : (z : ℤ) → mag z < 32768 → SFits w32 (toZ w16 (ofZ w16 z))
-wide z h = rw (toZ-ofZ {w = w16} {z = z} (record { sfits = h })) (record { sfits = omega arith })
 
 module _ (g : ℕ → ℤ) where
   -- these 32 bits hold the sum of the first i
@@ -43,7 +35,7 @@ module _ (g : ℕ → ℤ) where
     -- what the code adds is the next sum
     next : toZ w32 bits +ℤ toZ w32 (ofZ w32 (toZ w16 (ofZ w16 (g i)))) ≡ sumℤ g (suc i)
     unfolding sumℤ
-    next = rw (whole i bits (omega arith) s, toZ-ofZ (wide (g i) one), toZ-ofZ {w = w16} {z = g i} (record { sfits = one }))
+    next = rw (whole i bits (omega arith) s, toZ-ofZ (narrow (g i) (record { sfits = one })), toZ-ofZ {w = w16} {z = g i} (record { sfits = one }))
 
     bound : mag (sumℤ g (suc i)) ≤ 32768 * suc i
     unfolding sumℤ

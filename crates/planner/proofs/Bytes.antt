@@ -12,7 +12,8 @@ use Rattle.ring.specs.Schedule.{Send}
 use Rattle.ring.specs.Plan.{plan, sendOf, wayOf, startOf, linkSends, carries, finishOf, moves}
 use Rattle.ring.proofs.Joined.{joined-same, joined-add}
 use Rattle.hop.proofs.Pieces.{joined-long}
-use Rattle.planner.specs.PlanBytes.{sendBytes, linkBytes, recordsOf, headBytes, planBytes}
+use Rattle.planner.specs.PlanBytes.{sendBytes, recordsOf, headBytes, planBytes}
+use Rattle.planner.specs.EvenRuns.{linkBytes}
 
 pub send-long : (s : Send) → length (sendBytes s) ≡ 6
 unfolding sendBytes

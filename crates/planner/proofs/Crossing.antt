@@ -1,18 +1,17 @@
 -- What each board sends and receives in a plan, from the levels of the links on its two sides. Assumes nothing.
-use mathlib.Core.Path.{_≡_, refl, sym, ap, _∙_}
+use mathlib.Core.Path.{_≡_, ap, _∙_}
 use mathlib.Core.Bool.{true}
 use mathlib.Core.List.{List}
 use Prim.Native.Nat.{ℕ, _+_, _*_, _-_, _≤_, _<_}
 use native.Mathlib.Omega.{arith}
 use lib.Dec.{eqb}
 use lib.ListN.{length, getD, replicate}
-use Rattle.ring.specs.Numbers.{both}
-use Rattle.ring.specs.Lists.{count, fill}
+use Rattle.ring.specs.Lists.{fill}
 use Rattle.ring.specs.Boards.{Ring, Accepted, prev, mostLoad}
-use Rattle.ring.specs.Schedule.{Send, sender, receiver}
+use Rattle.ring.specs.Schedule.{sender, receiver}
 use Rattle.ring.specs.Plan.{level, offset, ahead, behind, plan}
 use Rattle.ring.proofs.Sums.{sum-ones}
-use Rattle.ring.proofs.Totals.{each-all, count-with}
+use Rattle.ring.proofs.Totals.{count-all}
 use Rattle.ring.proofs.Neighbours.{prev-below}
 use Rattle.ring.proofs.Planned.{sent-by, received-by}
 use Rattle.ring.proofs.Best.{timed}
@@ -23,17 +22,13 @@ use Rattle.planner.specs.Traffic.{sendsBy, trafficIn}
 use Rattle.planner.proofs.SumOutline.{level-at, carries-few}
 
 module _ (r : Ring) (ok : Accepted r) (i : ℕ) (h : i < r .n) where
-  -- every send passes
-  all : (who : Send → ℕ) → sendsBy r who i ≡ count (λ s. both (eqb (who s) i) true) (plan r)
-  all who = sym (count-with (λ s. eqb (who s) i) (λ s. true) (plan r) (each-all (λ s. refl) (plan r)))
-
   -- forward on its own link, and back on the link before
   pub sends-are : ahead r i + behind r (prev r i) ≡ sendsBy r (sender r) i
-  sends-are = omega (arith, all (sender r), sent-by r (timed r ok .back) (λ s. true) i h, sum-ones (ahead r i), sum-ones (behind r (prev r i)))
+  sends-are = omega (arith, count-all (λ s. eqb (sender r s) i) (plan r), sent-by r (timed r ok .back) (λ s. true) i h, sum-ones (ahead r i), sum-ones (behind r (prev r i)))
 
   -- forward from the link before, and back on its own link
   pub receipts-are : ahead r (prev r i) + behind r i ≡ sendsBy r (receiver r) i
-  receipts-are = omega (arith, all (receiver r), received-by r (timed r ok .back) (λ s. true) i h, sum-ones (ahead r (prev r i)), sum-ones (behind r i))
+  receipts-are = omega (arith, count-all (λ s. eqb (receiver r s) i) (plan r), received-by r (timed r ok .back) (λ s. true) i h, sum-ones (ahead r (prev r i)), sum-ones (behind r i))
 
 -- by the numbers of the ring's plan, and a list with its levels in the first places
 module _ (r : Ring) (ok : Accepted r) (o : Outline) (is : o ≡ outlineOf r) (was levels : List ℕ) (room : r .n ≤ length was) (put : levels ≡ fill (level r) (r .n) was) where

@@ -12,9 +12,9 @@ use borrow.Rule.Slice.PartMut.{putMid, midOf}
 use borrow.Author.Tests.{ltb-true, ltb-false, lt-ltb, le-ltb}
 use Rattle.ring.specs.Lists.{each, joined}
 use Rattle.ring.proofs.Joined.{joined-same, joined-add}
-use Rattle.planner.specs.PlanBytes.{sendBytes, linkBytes}
+use Rattle.planner.specs.PlanBytes.{sendBytes}
 use Rattle.planner.specs.Runs.{In}
-use Rattle.planner.specs.EvenRuns.{edgeOf, Even, runsBytes}
+use Rattle.planner.specs.EvenRuns.{linkBytes, edgeOf, Even, runsBytes}
 use Rattle.hop.proofs.Grow.{Begins, more}
 use Rattle.planner.proofs.Bytes.{link-long}
 

@@ -5,10 +5,10 @@ use Prim.Native.Nat.{ℕ, _+_, _*_, _-_, _≤_, _<_}
 use native.Mathlib.Omega.{arith}
 use lib.ListN.{length, drop, getD}
 use borrow.Author.Tests.{lt-ltb, le-ltb, eq-eqb, ne-eqb}
-use Rattle.planner.specs.PlanBytes.{sendBytes, linkBytes}
+use Rattle.planner.specs.PlanBytes.{sendBytes}
 use Rattle.ring.specs.Lists.{each}
 use Rattle.planner.specs.Runs.{oneWay, startBack, Runs}
-use Rattle.planner.specs.EvenRuns.{Even, runsBytes}
+use Rattle.planner.specs.EvenRuns.{linkBytes, Even, runsBytes}
 use Rattle.planner.specs.Outline.{between}
 use Rattle.planner.specs.Links.{wayBy, startTwo, pieceBy}
 use Rattle.ring.proofs.Joined.{joined-same}

@@ -1,6 +1,6 @@
 -- What the planner answers, and what it leaves in the lent buffer, for every job that the reader answers.
 use mathlib.Core.List.{List, _++_}
-use Prim.Native.Nat.{ℕ, _+_, _*_}
+use Prim.Native.Nat.{ℕ, _+_}
 use lib.Dec.{ltb}
 use lib.ListN.{length, drop}
 use Rattle.ring.specs.Numbers.{pick}
@@ -11,13 +11,13 @@ use Rattle.hop.specs.declared.Check.the-variants.{Ring as Read, Refused as Unre
 use Rattle.hop.specs.declared.Job.{Job}
 use Rattle.planner.specs.declared.Planned.{Planned}
 use Rattle.planner.specs.declared.Planned.the-variants.{Plan, Refused}
-use Rattle.planner.specs.PlanBytes.{planBytes, planLength}
+use Rattle.planner.specs.PlanBytes.{recordPlace, planBytes, planLength}
 
 -- for a plan's numbers and so many bytes of room: 12 where the finish is above 4,294,967,295, 13 where the plan is longer than the room, else
 -- finish, moves and tight link
 abbrev pub weighedOf : ℕ → ℕ → ℕ → ℕ → Planned
 weighedOf finish moves tight room =
-    pick (ltb 4294967295 finish) (Refused 12 0) (pick (ltb room (15 + 6 * moves)) (Refused 13 0) (Plan finish moves tight))
+    pick (ltb 4294967295 finish) (Refused 12 0) (pick (ltb room (recordPlace moves)) (Refused 13 0) (Plan finish moves tight))
 
 -- the same for an accepted ring
 abbrev pub answerFor : Ring → ℕ → Planned

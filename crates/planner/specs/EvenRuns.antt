@@ -7,8 +7,12 @@ use lib.Dec.{ltb}
 use lib.ListN.{length}
 use Rattle.ring.specs.Numbers.{pick}
 use Rattle.ring.specs.Lists.{each, joined}
-use Rattle.planner.specs.PlanBytes.{linkBytes}
+use Rattle.planner.specs.PlanBytes.{sendBytes}
 use Rattle.planner.specs.Runs.{In, Cover}
+
+-- the records of a link's first k sends: send x, from 0, starts at `start x`
+abbrev pub linkBytes : ℕ → ℕ → (ℕ → ℕ) → ℕ → List ℕ
+linkBytes link way start k = joined (λ x. sendBytes (record { link = link; way = way; start = start x })) k
 
 -- where run e begins, and the run before it ends
 abbrev pub edgeOf : List ℕ → ℕ → ℕ → ℕ → ℕ

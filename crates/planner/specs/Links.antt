@@ -8,7 +8,8 @@ use lib.ListN.{length, take, drop}
 use Rattle.ring.specs.Numbers.{pick, sum}
 use Rattle.ring.specs.Lists.{each, joined}
 use Rattle.ring.specs.Boards.{Accepted}
-use Rattle.planner.specs.PlanBytes.{linkBytes}
+use Rattle.planner.specs.PlanBytes.{recordPlace}
+use Rattle.planner.specs.EvenRuns.{linkBytes}
 use Rattle.planner.specs.Outline.{between, carriesIn}
 use Rattle.planner.specs.Runs.{oneWay, startBack}
 
@@ -47,4 +48,4 @@ pub record Linked (kind n : ℕ) (loads costs levels : List ℕ) (offset rounds 
 abbrev pub linksAfter : ℕ → ℕ → List ℕ → List ℕ → List ℕ → ℕ → ℕ → List ℕ → List ℕ
 linksAfter kind n loads costs levels offset rounds xs =
     (take 15 xs ++ joined (λ i. pieceBy kind n loads costs (each levels i) offset rounds i) n)
-    ++ drop (15 + 6 * sum (carriesIn levels offset) n) xs
+    ++ drop (recordPlace (sum (carriesIn levels offset) n)) xs

@@ -2,7 +2,7 @@
 use mathlib.Core.List.{List, [], _∷_, _++_}
 use Prim.Native.Nat.{ℕ, _+_, _*_}
 use lib.ListN.{getD}
-use Rattle.ring.specs.Lists.{joined, upTo}
+use Rattle.ring.specs.Lists.{upTo}
 use Rattle.ring.specs.Boards.{Ring}
 use Rattle.ring.specs.Schedule.{Send}
 use Rattle.ring.specs.Plan.{plan, finishOf, moves}
@@ -17,22 +17,22 @@ unfoldable pub recordsOf : List Send → List ℕ
 recordsOf [] = []
 recordsOf (s ∷ σ) = sendBytes s ++ recordsOf σ
 
--- the records of a link's first k sends: send x, from 0, starts at `start x`
-abbrev pub linkBytes : ℕ → ℕ → (ℕ → ℕ) → ℕ → List ℕ
-linkBytes link way start k = joined (λ x. sendBytes (record { link = link; way = way; start = start x })) k
-
 -- what stands before the records: mark "PLN", version 1, kind, n, finish, moves
 unfoldable pub headBytes : ℕ → ℕ → ℕ → ℕ → List ℕ
 headBytes kind n finish moves = 80 ∷ 76 ∷ 78 ∷ 0 ∷ 1 ∷ kind ∷ n ∷ wordBytes finish ++ wordBytes moves
+
+-- the place of record k, from 0
+abbrev pub recordPlace : ℕ → ℕ
+recordPlace k = 15 + 6 * k
 
 module _ (r : Ring) where
   -- the plan's bytes
   abbrev pub planBytes : List ℕ
   planBytes = headBytes (r .kind) (r .n) (finishOf r) (moves r) ++ recordsOf (plan r)
 
-  -- how many they are
+  -- how many they are: up to the place after the last record
   abbrev pub planLength : ℕ
-  planLength = 15 + 6 * moves r
+  planLength = recordPlace (moves r)
 
 -- the finish that a plan's bytes say
 abbrev pub finishIn : List ℕ → ℕ
@@ -41,10 +41,6 @@ finishIn s = wordAt s 7
 -- the moves that a plan's bytes say
 abbrev pub movesIn : List ℕ → ℕ
 movesIn s = wordAt s 11
-
--- the place of record k, from 0
-abbrev pub recordPlace : ℕ → ℕ
-recordPlace k = 15 + 6 * k
 
 -- the send that the record at a place says
 abbrev pub recordAt : List ℕ → ℕ → Send

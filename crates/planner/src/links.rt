@@ -5,7 +5,7 @@ ghost use Prim.Native.Nat.{ℕ, _+_, _*_, _-_, _<_, _≤_};
 ghost use lib.ListN.{length, drop};
 ghost use Rattle.ring.specs.Numbers.{sum};
 ghost use Rattle.ring.specs.Boards.{Accepted};
-ghost use Rattle.planner.specs.PlanBytes.{linkBytes};
+ghost use Rattle.planner.specs.EvenRuns.{linkBytes};
 ghost use Rattle.planner.specs.Runs.{oneWay, startBack};
 ghost use Rattle.planner.specs.Outline.{between, carriesIn};
 ghost use Rattle.planner.specs.Links.{wayBy, startTwo, pieceBy, Timely, Linked, linksAfter};

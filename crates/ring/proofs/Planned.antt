@@ -13,7 +13,7 @@ use Rattle.ring.specs.Boards.{Ring, Accepted, next, prev}
 use Rattle.ring.specs.Schedule.{Send, MayStart, sender, receiver, ends, loadAt, Allowed, Apart, Valid}
 use Rattle.ring.specs.Plan.{ahead, behind, carries, wayOf, startOf, sendOf, linkSends, plan, finishOf}
 use Rattle.ring.proofs.Sums.{sum-eq, sum-zero, sum-at, sum-ones}
-use Rattle.ring.proofs.Totals.{each-all, count-with}
+use Rattle.ring.proofs.Totals.{count-all}
 use Rattle.ring.proofs.Joined.{each-joined, two-joined, total-joined}
 use Rattle.ring.proofs.Neighbours.{prev-below, next-one}
 use Rattle.ring.proofs.Level.{one-sign, carried}
@@ -134,18 +134,14 @@ module _ (r : Ring) where
         → count (λ s. both (eqb (receiver r s) x) (q s)) (plan r) ≡ passing q (prev r x) (ahead r (prev r x)) + passing q x (behind r x)
     received-by q x h = omega (arith, received-if r (plan r) plan-allowed x h q, fore-count (prev r x) q (prev-below r x h), hind-count x q h)
 
-    -- all of it
-    all : (who : Send → ℕ) (x : ℕ) → count (λ s. both (eqb (who s) x) true) (plan r) ≡ count (λ s. eqb (who s) x) (plan r)
-    all who x = count-with (λ s. eqb (who s) x) (λ s. true) (plan r) (each-all (λ s. refl) (plan r))
-
     plan-left : Accepted r → (i : ℕ) → i < r .n
         → r .load i + count (λ s. eqb (receiver r s) i) (plan r) ≡ r .after i + count (λ s. eqb (sender r s) i) (plan r)
     plan-left ok i h =
         omega (
           arith,
           carried r ok i h,
-          all (sender r) i,
-          all (receiver r) i,
+          count-all (λ s. eqb (sender r s) i) (plan r),
+          count-all (λ s. eqb (receiver r s) i) (plan r),
           sent-by (λ s. true) i h,
           received-by (λ s. true) i h,
           sum-ones (ahead r i),

@@ -87,6 +87,9 @@ module _ {A : Type 0} where
   pub count-with : (p q : A → Bool) (xs : List A) → Each (λ x. q x ≡ true) xs → count (λ x. both (p x) (q x)) xs ≡ count p xs
   count-with p q xs h = total-eq _ _ xs (each-map (λ x e. ap one-if (both-with (p x) (q x) e)) xs h)
 
+  pub count-all : (p : A → Bool) (xs : List A) → count (λ x. both (p x) true) xs ≡ count p xs
+  count-all p xs = count-with p (λ x. true) xs (each-all (λ x. refl) xs)
+
   pub count-some : (p : A → Bool) (m : ℕ) (xs : List A) → Each (λ x. p x ≡ true → 1 ≤ m) xs → (count p xs ≡ 0) ⊎ (1 ≤ m)
   unfolding total
   count-some p m [] h = inl refl

@@ -4,7 +4,8 @@ use mathlib.Core.Path.{_≡_}
 use Prim.Native.Nat.{_≤_, _-_}
 use native.Mathlib.Omega.{arith}
 use Rattle.ring.specs.Lists.{eachℤ}
-use Rattle.hop.proofs.SignedSum.{Summed, wide, none, fits, more, whole}
+use Rattle.ring.proofs.After.{narrow}
+use Rattle.hop.proofs.SignedSum.{Summed, none, fits, more, whole}
 use Rattle.hop.proofs.rules.total.Statement.{statement}
 use Rattle.hop.proofs.rules.total.Tie as tie
 
@@ -27,7 +28,7 @@ shared-slice-copy-out-one : tie.Need-shared-slice-copy-out-one Inv-loop μ-loop
 shared-slice-copy-out-one c = search needs
 
 cast-sum : tie.Need-cast-sum Inv-loop μ-loop
-cast-sum c = wide (eachℤ (c .before .before .before .args .surpluses .now) (c .before .before .loop .i)) (c .one .given)
+cast-sum c = narrow (eachℤ (c .before .before .before .args .surpluses .now) (c .before .before .loop .i)) (record { sfits = c .one .given })
 
 add-sum : tie.Need-add-sum Inv-loop μ-loop
 add-sum c = let l = c .before .before in fits (eachℤ (l .before .args .surpluses .now)) (l .loop .i) (l .loop .sum) (omega arith) (c .one .given) (l .loop .inv .1)

@@ -42,7 +42,7 @@ cast-result : tie.Need-cast-result
 cast-result c = record { sfits = omega (arith, few c) }
 
 cast-result-2 : tie.Need-cast-result-2
-cast-result-2 c = narrow (load c) (surplus c) (few c) (fits c)
+cast-result-2 c = narrow (surplus c) (fits c)
 
 sub-result : tie.Need-sub-result
 sub-result c = fits-sub (load c) (surplus c) (few c) (fits c)

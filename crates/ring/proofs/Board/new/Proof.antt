@@ -22,7 +22,7 @@ cast-after : tie.Need-cast-after
 cast-after c = search needs
 
 cast-after-2 : tie.Need-cast-after-2
-cast-after-2 c = let a = c .before .before in narrow (a .args .load) (a .args .surplus) (a .fits .load .fits) (a .fits .surplus)
+cast-after-2 c = let a = c .before .before in narrow (a .args .surplus) (a .fits .surplus)
 
 sub-after : tie.Need-sub-after
 sub-after c = let a = c .before .before in fits-sub (a .args .load) (a .args .surplus) (a .fits .load .fits) (a .fits .surplus)
