@@ -109,6 +109,7 @@ int main(void)
     wrong += compare("a full buffer", full_buffer(), 30);
     wrong += compare("one way, costs falling", half_to_half(2, 3, FALLING), 20);
     wrong += compare("one way, costs mixed", half_to_half(2, 3, MIXED), 20);
+    wrong += compare("two way", half_to_half(3, 6, ALIKE), 20);
     wrong += compare("one way, costs falling", half_to_half(2, 244, FALLING), 1);
     wrong += compare("one way, costs mixed", half_to_half(2, 244, MIXED), 1);
     wrong += compare("two way", half_to_half(3, 488, ALIKE), 1);
