@@ -1,6 +1,6 @@
 -- What the planner answers, and what it leaves in the lent buffer, for every job that the reader answers.
 use mathlib.Core.List.{List, _++_}
-use Prim.Native.Nat.{ℕ, _+_}
+use Prim.Native.Nat.{ℕ}
 use lib.Dec.{ltb}
 use lib.ListN.{length, drop}
 use Rattle.ring.specs.Numbers.{pick}
