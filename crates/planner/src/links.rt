@@ -171,7 +171,7 @@ fn put_in_large(
     );
 }
 
-// The boards of a small ring, whose runs are worked out in little room: clearing room for 128 would take as long as its plan.
+// The boards of a small ring, whose runs are worked out in little room, so that it does not pay for clearing room for 128.
 const SMALL: usize = 16;
 
 // The same in room that goes by the ring's size.
