@@ -52,9 +52,9 @@ static void put_word(uint8_t *at, uint32_t x)
     at[0] = x >> 24, at[1] = x >> 16, at[2] = x >> 8, at[3] = x;
 }
 
-static uint8_t *put_send(uint8_t *at, int link, int way, uint32_t start)
+static uint8_t *put_send(uint8_t *at, int link, int direction, uint32_t start)
 {
-    at[0] = link, at[1] = way;
+    at[0] = link, at[1] = direction;
     put_word(at + 2, start);
     return at + 6;
 }

@@ -13,7 +13,7 @@ use Rattle.ring.specs.declared.Made.{Made}
 use Rattle.ring.specs.declared.Made.the-variants.{Sound, Load, After, Cost}
 use Rattle.ring.specs.Numbers.{pick, sumℤ}
 use Rattle.ring.specs.Limits.{faultOf, boardOf}
-use Rattle.ring.specs.Plan.{finishOf, moves, tight}
+use Rattle.ring.specs.Plan.{offset, finishOf, moves, tight}
 use Rattle.ring.specs.Bytes.{halfAt}
 use Rattle.hop.specs.declared.Check.{Check}
 use Rattle.hop.specs.declared.Check.the-variants.{Ring, Refused as Unread}
@@ -148,8 +148,8 @@ module _ (s : List ℕ) (room : ℕ) where
       go : (c : Check) → Right c → Clear (ofPlanned (answerBy (jobOf s) room c))
       go (Ring k n) p =
           let r = ringFor (jobOf s) k n in
-          picked (λ (w : Planned). Clear (ofPlanned w)) (ltb 4294967295 (finishOf r)) {a = Unplanned 12 0} (clear 12 0 (omega arith))
-          (picked (λ (w : Planned). Clear (ofPlanned w)) (ltb room (planLength r)) {a = Unplanned 13 0} {b = Plan (finishOf r) (moves r) (tight r)} (clear 13 0 (omega arith)) refl)
+          picked (λ (w : Planned). Clear (ofPlanned w)) (ltb 4294967295 (finishOf r (offset r))) {a = Unplanned 12 0} (clear 12 0 (omega arith))
+          (picked (λ (w : Planned). Clear (ofPlanned w)) (ltb room (planLength r)) {a = Unplanned 13 0} {b = Plan (finishOf r (offset r)) (moves r (offset r)) (tight r (offset r))} (clear 13 0 (omega arith)) refl)
       go (Unread number board) p = p .said
 
   pub query-clear : (places : ℕ) → Clear (ofPlanned (queryAnswer (jobOf s) room places))

@@ -66,7 +66,7 @@ fn byte(s: &[u8], at: usize, k: usize) -> u64 {
 // The record at a place, with the bytes of its start.
 fn show_record(plan: &[u8], at: usize) {
     number(b"  link ", byte(plan, at, 0));
-    number(b" way ", byte(plan, at, 1));
+    number(b" direction ", byte(plan, at, 1));
     number(b" start ", byte(plan, at, 2));
     number(b" ", byte(plan, at, 3));
     number(b" ", byte(plan, at, 4));

@@ -207,12 +207,12 @@ fn put_head(buf: &mut [u8], kind: u8, n: u8, finish: u32, moves: u32) {
 }
 
 // One send's record at its link's next place.
-fn put_send(buf: &mut [u8], places: &mut [usize; 128], i: usize, way: u8, start: u32)
+fn put_send(buf: &mut [u8], places: &mut [usize; 128], i: usize, direction: u8, start: u32)
     requires { ⌜ i < 128 ⌝ }
 {
     let at = places[i];
     put(buf, at, 0, i as u8);
-    put(buf, at, 1, way);
+    put(buf, at, 1, direction);
     put_word(buf, at, 2, start);
     places[i] = wrapping_add_usize(at, 6);
 }

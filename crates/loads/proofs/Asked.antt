@@ -5,7 +5,7 @@ use Prim.Native.Nat.{ℕ, _≤_, _<_}
 use lib.ListN.{length, drop}
 use borrow.Author.Tests.{lt-ltb, le-ltb}
 use Rattle.ring.specs.Boards.{Ring as Machine}
-use Rattle.ring.specs.Plan.{moves}
+use Rattle.ring.specs.Plan.{offset, moves}
 use Rattle.hop.specs.declared.Check.{Check}
 use Rattle.hop.specs.declared.Check.the-variants.{Ring, Refused as Unread}
 use Rattle.hop.specs.declared.Job.{Job}
@@ -73,7 +73,7 @@ unread job room e = ap (answerBy job room) e
 
 -- a plan of a ring that was read: its moves, and its bytes in the buffer
 pub record Written (job : Job) (k n m : ℕ) (xs : List ℕ) : Type 0 where
-  pub moves-is : moves (ringFor job k n) ≡ m
+  pub moves-is : moves (ringFor job k n) (offset (ringFor job k n)) ≡ m
   pub bytes : planMemory job xs ≡ planBytes (ringFor job k n) ++ drop (planLength (ringFor job k n)) xs
 
 pub written : (job : Job) (xs : List ℕ) {k n f m t : ℕ} → job .answer ≡ Ring k n → planAnswer job (length xs) ≡ Plan f m t → Written job k n m xs

@@ -15,7 +15,6 @@ use Rattle.ring.proofs.Tests.{one-if-le}
 use Rattle.ring.proofs.Totals.{each-all, total-le, total-append, total-length}
 use Rattle.ring.proofs.Neighbours.{next-below}
 use Rattle.ring.proofs.Fill.{fill-at, fill-self, fill-set}
-use Rattle.loads.specs.Counts.{linksIn}
 
 module _ {A : Type 0} where
   -- no more pass a test than there are
@@ -64,20 +63,20 @@ unfolding total
 none-counted who q n m h = sym (fill-self (ofBoard who q []) n (replicate m 0) (λ i l. sym (getD-replicate m i 0 0 (omega arith))))
 
 -- the two boards of a link, by the direction
-pub record Between (n link way to from : ℕ) : Type 0 where
-  pub to-is : to ≡ pick (eqb way 0) (next (linksIn n []) link) link
+pub record Between (n link direction to from : ℕ) : Type 0 where
+  pub to-is : to ≡ pick (eqb direction 0) (next n link) link
   pub to-in : to < n
-  pub from-is : from ≡ pick (eqb way 0) link (next (linksIn n []) link)
+  pub from-is : from ≡ pick (eqb direction 0) link (next n link)
   pub from-in : from < n
 
-pub between : (n link way ahead to from : ℕ) → link < n → ahead ≡ next (linksIn n []) link → to ≡ pick (eqb way 0) ahead link → from ≡ pick (eqb way 0) link ahead → Between n link way to from
-between n link way ahead to from h a t f =
-    let l : ahead < n = rw a (next-below (linksIn n []) link h) in
+pub between : (n link direction ahead to from : ℕ) → link < n → ahead ≡ next n link → to ≡ pick (eqb direction 0) ahead link → from ≡ pick (eqb direction 0) link ahead → Between n link direction to from
+between n link direction ahead to from h a t f =
+    let l : ahead < n = rw a (next-below n link h) in
     record {
-      to-is = t ∙ ap (λ (x : ℕ). pick (eqb way 0) x link) a;
-      to-in = rw t (one-of (eqb way 0) l h);
-      from-is = f ∙ ap (λ (x : ℕ). pick (eqb way 0) link x) a;
-      from-in = rw f (one-of (eqb way 0) h l);
+      to-is = t ∙ ap (λ (x : ℕ). pick (eqb direction 0) x link) a;
+      to-in = rw t (one-of (eqb direction 0) l h);
+      from-is = f ∙ ap (λ (x : ℕ). pick (eqb direction 0) link x) a;
+      from-in = rw f (one-of (eqb direction 0) h l);
     }
   where
     one-of : (b : Bool) {x y : ℕ} → x < n → y < n → pick b x y < n

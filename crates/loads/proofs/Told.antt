@@ -11,8 +11,9 @@ use Rattle.ring.specs.Numbers.{both}
 use Rattle.ring.specs.Lists.{Each, fill}
 use Rattle.ring.specs.Boards.{ringIn, Accepted}
 use Rattle.ring.specs.Schedule.{receiver, ends, receivedBy, sentBefore, loadAt}
-use Rattle.ring.specs.Plan.{plan, moves}
+use Rattle.ring.specs.Plan.{offset, plan, moves}
 use Rattle.ring.proofs.Fill.{fill-at}
+use Rattle.ring.proofs.Offset.{fits}
 use Rattle.ring.proofs.Best.{valid, ends-at}
 use Rattle.ring.proofs.Conserve.{never-below}
 use Rattle.ring.proofs.Bounds.{moves-most, finish-most}
@@ -44,18 +45,18 @@ pub record Told (n : ℕ) (loads costs buf : List ℕ) (m : ℕ) (whole : List �
 
 -- of a ring's lists
 module _ (kind n : ℕ) (loads : List ℕ) (surpluses : List ℤ) (costs : List ℕ) (ok : Accepted (ringIn kind n loads surpluses costs)) (rest : List ℕ) (tick : ℕ) where
-  fit : Each Fitting (plan (ringIn kind n loads surpluses costs))
+  fit : Each Fitting (plan (ringIn kind n loads surpluses costs) (offset (ringIn kind n loads surpluses costs)))
   fit =
       let r = ringIn kind n loads surpluses costs in
-      fitting r (omega (arith, ok .boards)) (plan r) (valid r ok .allowed) (omega (arith, ends-at r ok, finish-most r ok))
+      fitting r (omega (arith, ok .boards)) (plan r (offset r)) (valid r (offset r) ok (fits r ok) .allowed) (omega (arith, ends-at r (offset r) ok (fits r ok), finish-most r ok (offset r) (fits r ok)))
 
   told-ring : length costs ≡ 128
       → let r = ringIn kind n loads surpluses costs in
-      Told n loads costs (planBytes r ++ rest) (moves r) (fill (λ i. loadAt r (plan r) i tick) n) (countsOf (linksIn n costs) (recordsIn (planBytes r ++ rest) (moves r)) tick)
+      Told n loads costs (planBytes r ++ rest) (moves r (offset r)) (fill (λ i. loadAt r (plan r (offset r)) i tick) n) (countsOf (linksIn n costs) (recordsIn (planBytes r ++ rest) (moves r (offset r))) tick)
   unfolding loadAt
   told-ring cl =
       let r = ringIn kind n loads surpluses costs in
-      let σ = plan r in
+      let σ = plan r (offset r) in
       let zeros : List ℕ = replicate 128 0 in
       let few : n ≤ 128 = ok .boards .1 in
       let got : (i : ℕ) → i < n → getD (fill (λ i. receivedBy r σ i tick) n zeros) i 0 ≡ receivedBy r σ i tick = λ i h. fill-at _ zeros 0 n i h few in
@@ -64,11 +65,11 @@ module _ (kind n : ℕ) (loads : List ℕ) (surpluses : List ℤ) (costs : List 
       (record {
         few = few;
         costs-long = cl;
-        placed = simp (length-append, head-long, records-long, as-many r) (omega arith);
-        linked = link-read r fit rest (valid r ok .allowed);
+        placed = simp (length-append, head-long, records-long, as-many r (offset r)) (omega arith);
+        linked = link-read r fit rest (valid r (offset r) ok (fits r ok) .allowed);
         covered = record {
-          small = λ i h. omega (arith, got i h, ok .loads i h, as-many r, moves-most r ok, count-most (λ x. both (eqb (receiver r x) i) (leb (ends r x) tick)) σ);
-          enough = λ i h. omega (arith, got i h, gave i h, never-below r ok σ (valid r ok) i tick);
+          small = λ i h. omega (arith, got i h, ok .loads i h, as-many r (offset r), moves-most r ok (offset r) (fits r ok), count-most (λ x. both (eqb (receiver r x) i) (leb (ends r x) tick)) σ);
+          enough = λ i h. omega (arith, got i h, gave i h, never-below r ok σ (valid r (offset r) ok (fits r ok)) i tick);
         };
         told = λ ys. fill-same _ (λ i. loadAt r σ i tick) n ys (record { at = λ i h. omega (arith, got i h, gave i h) });
       })

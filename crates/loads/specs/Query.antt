@@ -6,7 +6,7 @@ use lib.ListN.{length}
 use Rattle.ring.specs.Numbers.{pick}
 use Rattle.ring.specs.Lists.{fill}
 use Rattle.ring.specs.Schedule.{loadAt}
-use Rattle.ring.specs.Plan.{plan}
+use Rattle.ring.specs.Plan.{offset, plan}
 use Rattle.hop.specs.declared.Check.{Check}
 use Rattle.hop.specs.declared.Check.the-variants.{Ring, Refused as Unread}
 use Rattle.hop.specs.declared.Job.{Job}
@@ -40,7 +40,7 @@ queryPlan job places xs = unlessRefused (queryAnswer job (length xs) places) (pl
 
 -- the load of each board at the tick in the list's first n places, and then what was there
 abbrev pub loadsBy : Job → Check → ℕ → List ℕ → List ℕ
-loadsBy job (Ring kind n) tick ys = let r = ringFor job kind n in fill (λ i. loadAt r (plan r) i tick) n ys
+loadsBy job (Ring kind n) tick ys = let r = ringFor job kind n in fill (λ i. loadAt r (plan r (offset r)) i tick) n ys
 loadsBy job (Unread number board) tick ys = ys
 
 -- the list afterwards

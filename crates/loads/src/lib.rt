@@ -1,6 +1,5 @@
 // The loads query: the plan of a job in a lent buffer, and the load of each board at a tick in a lent list.
 ghost use mathlib.Core.Path.{_≡_};
-ghost use mathlib.Core.List.{[]};
 ghost use Prim.Native.Nat.{ℕ, _+_, _*_, _<_, _≤_};
 ghost use lib.Dec.{eqb};
 ghost use lib.ListN.{length, getD};
@@ -32,16 +31,16 @@ fn one_if(test: bool) -> u32
 // The board after board i of n.
 fn next(i: usize, n: usize) -> usize
     requires { ⌜ i < n ⌝ }
-    ensures { λ r. ⌜ r ≡ next (linksIn n []) i ⌝ }
+    ensures { λ r. ⌜ r ≡ next n i ⌝ }
 {
     if i + 1 == n { 0 } else { i + 1 }
 }
 
 // The first where a send goes forward, the second where it goes back.
-fn by_way(way: u8, forward: usize, back: usize) -> usize
-    ensures { λ r. ⌜ r ≡ pick (eqb way 0) forward back ⌝ }
+fn by_direction(direction: u8, forward: usize, back: usize) -> usize
+    ensures { λ r. ⌜ r ≡ pick (eqb direction 0) forward back ⌝ }
 {
-    if way == 0 { forward } else { back }
+    if direction == 0 { forward } else { back }
 }
 
 // Four bytes, the highest first.
@@ -78,12 +77,12 @@ fn counts_by(plan: &[u8], moves: u32, n: usize, costs: &[u16], tick: u32) -> Cou
     for k in 0..moves {
         let at = 15 + 6 * (k as usize);
         let link = plan[at] as usize;
-        let way = plan[at + 1];
+        let direction = plan[at + 1];
         let start = word(plan, at + 2);
         let end = end_of(start, costs[link]).0;
         let ahead = next(link, n);
-        let to = by_way(way, ahead, link);
-        let from = by_way(way, link, ahead);
+        let to = by_direction(direction, ahead, link);
+        let from = by_direction(direction, link, ahead);
         received[to] += one_if(end <= (tick as u64));
         sent[from] += one_if(start < tick);
     }

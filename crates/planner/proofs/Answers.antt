@@ -12,6 +12,7 @@ use Rattle.ring.specs.Numbers.{pick, sum}
 use Rattle.ring.specs.Lists.{joined, fill}
 use Rattle.ring.specs.Boards.{Ring, ringIn}
 use Rattle.ring.specs.Plan.{level, offset, rounds, finishOf, moves, tight, plan}
+use Rattle.ring.proofs.Offset.{fits}
 use Rattle.planner.specs.declared.Planned.{Planned}
 use Rattle.planner.specs.declared.Planned.the-variants.{Plan, Refused}
 use Rattle.planner.specs.declared.sums.Outline.{Outline}
@@ -33,16 +34,16 @@ passed false false p q f m k a b = (refl, refl, sym a ∙ b)
 
 -- what is known of a ring whose plan was let through
 pub record Through (r : Ring) (f m room : ℕ) : Type 0 where
-  pub finish : f ≡ finishOf r
-  pub moved : m ≡ moves r
-  pub soon : finishOf r < 4294967296
+  pub finish : f ≡ finishOf r (offset r)
+  pub moved : m ≡ moves r (offset r)
+  pub soon : finishOf r (offset r) < 4294967296
   pub fits : planLength r ≤ room
 
 pub through : (r : Ring) (room : ℕ) (p : Planned) (f m k : ℕ) → p ≡ answerFor r room → p ≡ Plan f m k → Through r f m room
 through r room p f m k a b =
-    let h = passed (ltb 4294967295 (finishOf r)) (ltb room (planLength r)) p (Plan (finishOf r) (moves r) (tight r)) f m k a b in
-    let q : Plan (finishOf r) (moves r) (tight r) ≡ Plan f m k = h .2 in
-    record { finish = cc; moved = cc; soon = omega (arith, ltb-false 4294967295 (finishOf r) (h .0)); fits = ltb-false room (planLength r) (h .1) }
+    let h = passed (ltb 4294967295 (finishOf r (offset r))) (ltb room (planLength r)) p (Plan (finishOf r (offset r)) (moves r (offset r)) (tight r (offset r))) f m k a b in
+    let q : Plan (finishOf r (offset r)) (moves r (offset r)) (tight r (offset r)) ≡ Plan f m k = h .2 in
+    record { finish = cc; moved = cc; soon = omega (arith, ltb-false 4294967295 (finishOf r (offset r)) (h .0)); fits = ltb-false room (planLength r) (h .1) }
 
 module _ (kind n : ℕ) (loads : List ℕ) (surpluses : List ℤ) (costs : List ℕ) (lent : Lent kind n loads surpluses costs) (o : Outline) (is : o ≡ outlineOf (ringIn kind n loads surpluses costs)) where
   pub answer-is : (room : ℕ)
@@ -55,29 +56,29 @@ module _ (kind n : ℕ) (loads : List ℕ) (surpluses : List ℤ) (costs : List 
     level-is = level-at (ringIn kind n loads surpluses costs) (lent .accepted) was levels room put
 
     -- the numbers are those that the links are written from
-    pub linked : finishOf (ringIn kind n loads surpluses costs) < 4294967296 → Linked kind n loads costs levels (o .offset) (o .rounds)
+    pub linked : finishOf (ringIn kind n loads surpluses costs) (offset (ringIn kind n loads surpluses costs)) < 4294967296 → Linked kind n loads costs levels (o .offset) (o .rounds)
     linked soon =
         let r = ringIn kind n loads surpluses costs in
         subst (λ (p : Outline). Linked kind n loads costs levels (p .offset) (p .rounds)) (sym is)
-        (links-are kind n loads surpluses costs levels level-is (lent .accepted) soon (lent .loads-long) (lent .costs-long) (levels-long r (lent .accepted) was levels room put))
+        (links-are kind n loads surpluses costs (offset r) levels level-is (lent .accepted) (fits r (lent .accepted)) soon (lent .loads-long) (lent .costs-long) (levels-long r (lent .accepted) was levels room put))
 
-    items : sum (carriesIn levels (o .offset)) n ≡ moves (ringIn kind n loads surpluses costs)
+    items : sum (carriesIn levels (o .offset)) n ≡ moves (ringIn kind n loads surpluses costs) (offset (ringIn kind n loads surpluses costs))
     items =
         let r = ringIn kind n loads surpluses costs in
-        (λ t. sum (carriesIn levels (is t .offset)) n) ∙ items-are r (omega (arith, lent .accepted .boards)) levels level-is
+        (λ t. sum (carriesIn levels (is t .offset)) n) ∙ items-are r (offset r) (omega (arith, lent .accepted .boards)) levels level-is
 
     pub room-for : (bytes : ℕ) → planLength (ringIn kind n loads surpluses costs) ≤ bytes → 15 + 6 * sum (carriesIn levels (o .offset)) n ≤ bytes
     room-for bytes h = omega (arith, items)
 
     -- the head and the links together are the plan
-    pub laid-out : (f m : ℕ) (xs ys zs : List ℕ) → f ≡ finishOf (ringIn kind n loads surpluses costs) → m ≡ moves (ringIn kind n loads surpluses costs) → ys ≡ headBytes kind n f m ++ drop 15 xs
+    pub laid-out : (f m : ℕ) (xs ys zs : List ℕ) → f ≡ finishOf (ringIn kind n loads surpluses costs) (offset (ringIn kind n loads surpluses costs)) → m ≡ moves (ringIn kind n loads surpluses costs) (offset (ringIn kind n loads surpluses costs)) → ys ≡ headBytes kind n f m ++ drop 15 xs
         → zs ≡ linksAfter kind n loads costs levels (o .offset) (o .rounds) ys
         → zs ≡ planBytes (ringIn kind n loads surpluses costs) ++ drop (planLength (ringIn kind n loads surpluses costs)) xs
     laid-out f m xs ys zs ef em head wrote =
         let r = ringIn kind n loads surpluses costs in
-        let pieces : joined (λ i. pieceBy kind n loads costs (getD levels i 0) (o .offset) (o .rounds) i) n ≡ recordsOf (plan r) =
-        (λ t. joined (λ i. pieceBy kind n loads costs (getD levels i 0) (is t .offset) (is t .rounds) i) n) ∙ pieces-are kind n loads surpluses costs levels level-is in
+        let pieces : joined (λ i. pieceBy kind n loads costs (getD levels i 0) (o .offset) (o .rounds) i) n ≡ recordsOf (plan r (offset r)) =
+        (λ t. joined (λ i. pieceBy kind n loads costs (getD levels i 0) (is t .offset) (is t .rounds) i) n) ∙ pieces-are kind n loads surpluses costs (offset r) levels level-is in
         wrote
         ∙ (λ t. (take 15 ys ++ pieces t) ++ drop (15 + 6 * items t) ys)
-        ∙ past-head (headBytes kind n f m) ys xs (recordsOf (plan r)) 15 (6 * moves r) (head-long kind n f m) head
-        ∙ (λ t. (headBytes kind n (ef t) (em t) ++ recordsOf (plan r)) ++ drop (15 + 6 * moves r) xs)
+        ∙ past-head (headBytes kind n f m) ys xs (recordsOf (plan r (offset r))) 15 (6 * moves r (offset r)) (head-long kind n f m) head
+        ∙ (λ t. (headBytes kind n (ef t) (em t) ++ recordsOf (plan r (offset r))) ++ drop (15 + 6 * moves r (offset r)) xs)

@@ -9,7 +9,7 @@ use Rattle.ring.specs.Numbers.{sum}
 use Rattle.ring.specs.Lists.{joined}
 use Rattle.ring.specs.Boards.{Ring}
 use Rattle.ring.specs.Schedule.{Send}
-use Rattle.ring.specs.Plan.{plan, sendOf, wayOf, startOf, linkSends, carries, finishOf, moves}
+use Rattle.ring.specs.Plan.{offset, plan, sendOf, directionOf, startOf, linkSends, carries, finishOf, moves}
 use Rattle.ring.proofs.Joined.{joined-same, joined-add}
 use Rattle.hop.proofs.Pieces.{joined-long}
 use Rattle.planner.specs.PlanBytes.{sendBytes, recordsOf, headBytes, planBytes}
@@ -19,8 +19,8 @@ pub send-long : (s : Send) → length (sendBytes s) ≡ 6
 unfolding sendBytes
 send-long s = refl
 
-pub link-long : (link way : ℕ) (start : ℕ → ℕ) (k : ℕ) → length (linkBytes link way start k) ≡ 6 * k
-link-long link way start k = joined-long (λ x. sendBytes (record { link = link; way = way; start = start x })) (λ x. send-long _) k
+pub link-long : (link direction : ℕ) (start : ℕ → ℕ) (k : ℕ) → length (linkBytes link direction start k) ≡ 6 * k
+link-long link direction start k = joined-long (λ x. sendBytes (record { link = link; direction = direction; start = start x })) (λ x. send-long _) k
 
 pub head-long : (kind n finish moves : ℕ) → length (headBytes kind n finish moves) ≡ 15
 unfolding headBytes
@@ -47,8 +47,8 @@ unfolding recordsOf
 records-each s k = records-joined (λ j. s j ∷ []) k ∙ joined-same _ _ k (λ j h. append-nil (sendBytes (s j)))
 
 -- the records of a plan: link by link, send by send
-pub records-plan : (r : Ring) → recordsOf (plan r) ≡ joined (λ i. joined (λ j. sendBytes (sendOf r i (suc j))) (carries r i)) (r .n)
-records-plan r = records-joined (λ i. linkSends r i (carries r i)) (r .n) ∙ joined-same _ _ (r .n) (λ i h. records-each (λ j. sendOf r i (suc j)) (carries r i))
+pub records-plan : (r : Ring) (o : ℕ) → recordsOf (plan r o) ≡ joined (λ i. joined (λ j. sendBytes (sendOf r o i (suc j))) (carries r o i)) (r .n)
+records-plan r o = records-joined (λ i. linkSends r o i (carries r o i)) (r .n) ∙ joined-same _ _ (r .n) (λ i h. records-each (λ j. sendOf r o i (suc j)) (carries r o i))
 
 -- pieces of six bytes for each of w's
 pieces-long : (g : ℕ → List ℕ) (w : ℕ → ℕ) → ((i : ℕ) → length (g i) ≡ 6 * w i) → (k : ℕ) → length (joined g k) ≡ 6 * sum w k
@@ -59,21 +59,21 @@ pieces-long g w long (suc k) = simp (length-append, long, pieces-long g w long k
 -- the records of a link in the plan's bytes: after the head and the records of all lower links
 module _ (r : Ring) (rest : List ℕ) (i : ℕ) (h : i < r .n) where
   abbrev piece : ℕ → List ℕ
-  piece k = recordsOf (linkSends r k (carries r k))
+  piece k = recordsOf (linkSends r (offset r) k (carries r (offset r) k))
 
-  piece-long : (k : ℕ) → length (piece k) ≡ 6 * carries r k
-  piece-long k = ap (λ (l : List ℕ). length l) (records-each (λ j. sendOf r k (suc j)) (carries r k)) ∙ link-long k (wayOf r k) (λ x. startOf r k (suc x)) (carries r k)
+  piece-long : (k : ℕ) → length (piece k) ≡ 6 * carries r (offset r) k
+  piece-long k = ap (λ (l : List ℕ). length l) (records-each (λ j. sendOf r (offset r) k (suc j)) (carries r (offset r) k)) ∙ link-long k (directionOf r (offset r) k) (λ x. startOf r (offset r) k (suc x)) (carries r (offset r) k)
 
-  pub link-begins : take (6 * carries r i) (drop (15 + 6 * sum (carries r) i) (planBytes r ++ rest)) ≡ recordsOf (linkSends r i (carries r i))
+  pub link-begins : take (6 * carries r (offset r) i) (drop (15 + 6 * sum (carries r (offset r)) i) (planBytes r ++ rest)) ≡ recordsOf (linkSends r (offset r) i (carries r (offset r) i))
   unfolding joined
   link-begins =
-      let head = headBytes (r .kind) (r .n) (finishOf r) (moves r) in
+      let head = headBytes (r .kind) (r .n) (finishOf r (offset r)) (moves r (offset r)) in
       let later = joined (λ x. piece (suc i + x)) (r .n - suc i) in
       let n : r .n ≡ suc i + (r .n - suc i) = omega arith in
-      let split : recordsOf (plan r) ≡ (joined piece i ++ piece i) ++ later =
-      records-joined (λ k. linkSends r k (carries r k)) (r .n) ∙ ap (joined piece) n ∙ joined-add piece (suc i) (r .n - suc i) in
+      let split : recordsOf (plan r (offset r)) ≡ (joined piece i ++ piece i) ++ later =
+      records-joined (λ k. linkSends r (offset r) k (carries r (offset r) k)) (r .n) ∙ ap (joined piece) n ∙ joined-add piece (suc i) (r .n - suc i) in
       let e : planBytes r ++ rest ≡ (head ++ joined piece i) ++ (piece i ++ (later ++ rest)) = rw split (simp append-assoc) in
-      let long : length (head ++ joined piece i) ≡ 15 + 6 * sum (carries r) i =
-      simp (length-append, head-long, pieces-long piece (carries r) piece-long i) in
-      rw (e, drop-at (head ++ joined piece i) (piece i ++ (later ++ rest)) (15 + 6 * sum (carries r) i) long)
-      (take-at (piece i) (later ++ rest) (6 * carries r i) (piece-long i))
+      let long : length (head ++ joined piece i) ≡ 15 + 6 * sum (carries r (offset r)) i =
+      simp (length-append, head-long, pieces-long piece (carries r (offset r)) piece-long i) in
+      rw (e, drop-at (head ++ joined piece i) (piece i ++ (later ++ rest)) (15 + 6 * sum (carries r (offset r)) i) long)
+      (take-at (piece i) (later ++ rest) (6 * carries r (offset r) i) (piece-long i))

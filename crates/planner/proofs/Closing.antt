@@ -10,7 +10,8 @@ use borrow.Author.Tests.{lt-ltb, le-ltb}
 use Rattle.ring.specs.Numbers.{sum}
 use Rattle.ring.specs.Boards.{Ring, Accepted}
 use Rattle.ring.specs.Schedule.{Send, Valid, finish}
-use Rattle.ring.specs.Plan.{linkSends, carries, plan, finishOf, moves, tight}
+use Rattle.ring.specs.Plan.{offset, linkSends, carries, plan, finishOf, moves, tight}
+use Rattle.ring.proofs.Offset.{fits}
 use Rattle.ring.proofs.Bounds.{moves-most}
 use Rattle.ring.proofs.Demand3.{plan-is-valid, finish-is, none-sooner, moves-is, finish-fits}
 use Rattle.hop.specs.declared.Check.the-variants.{Ring as Read, Refused as Unread}
@@ -29,13 +30,13 @@ use Rattle.planner.proofs.Reading.{unread-answer, unread-memory, read-a
 -- that the buffer's bytes say
 pub record Closed (r : Ring) (xs ys : List ℕ) (p : Planned) : Type 0 where
   -- "it returns .. finish, moves and tight link (planner and query)"
-  pub answer : p ≡ Plan (finishOf r) (moves r) (tight r)
+  pub answer : p ≡ Plan (finishOf r (offset r)) (moves r (offset r)) (tight r (offset r))
   -- "Plan: mark "PLN", version (16 bits, value 1), kind (1), n (1), finish (32), moves (32)"
-  pub head : take 15 ys ≡ headBytes (r .kind) (r .n) (finishOf r) (moves r)
+  pub head : take 15 ys ≡ headBytes (r .kind) (r .n) (finishOf r (offset r)) (moves r (offset r))
   -- "then a record for each send": the records say the sends of section "The plan"
-  pub sends : planIn ys ≡ plan r
+  pub sends : planIn ys ≡ plan r (offset r)
   -- "The sends of link i begin at byte 15 + 6 × the sends of all lower links."
-  pub begins : (i : ℕ) → i < r .n → take (6 * carries r i) (drop (15 + 6 * sum (carries r) i) ys) ≡ recordsOf (linkSends r i (carries r i))
+  pub begins : (i : ℕ) → i < r .n → take (6 * carries r (offset r) i) (drop (15 + 6 * sum (carries r (offset r)) i) ys) ≡ recordsOf (linkSends r (offset r) i (carries r (offset r) i))
   -- "A valid schedule": all its rules, with "after all sends each board has load − surplus"
   pub valid : Valid r (planIn ys)
   -- "The finish is the largest end": it is the finish that the bytes say
@@ -49,38 +50,38 @@ pub record Closed (r : Ring) (xs ys : List ℕ) (p : Planned) : Type 0 where
   pub long : length ys ≡ length xs
 
 module _ (r : Ring) (ok : Accepted r) (xs : List ℕ) where
-  few : moves r < 4294967296
-  few = omega (arith, moves-most r ok)
+  few : moves r (offset r) < 4294967296
+  few = omega (arith, moves-most r ok (offset r) (fits r ok))
 
   bytes-long : length (planBytes r) ≡ planLength r
   bytes-long = simp (length-append, head-long, records-long, moves-is r ok)
 
   -- the bytes of a plan, and then what was there
-  laid : planLength r ≤ length xs → Closed r xs (planBytes r ++ drop (planLength r) xs) (Plan (finishOf r) (moves r) (tight r))
+  laid : planLength r ≤ length xs → Closed r xs (planBytes r ++ drop (planLength r) xs) (Plan (finishOf r (offset r)) (moves r (offset r)) (tight r (offset r)))
   unfolding headBytes
   laid room =
       let tail = drop (planLength r) xs in
-      let fits = finish-fits r ok in
+      let soon = finish-fits r ok in
       let good = plan-is-valid r ok in
-      let back = plan-back r (fitting r (omega (arith, ok .boards)) (plan r) (good .allowed) (omega (arith, finish-is r ok))) tail few in
+      let back = plan-back r (fitting r (omega (arith, ok .boards)) (plan r (offset r)) (good .allowed) (omega (arith, finish-is r ok))) tail few in
       record {
         answer = refl;
         head = refl;
         sends = back;
         begins = link-begins r tail;
         valid = subst (Valid r) (sym back) good;
-        ends = ap (finish r) back ∙ finish-is r ok ∙ sym (finish-back r tail (fits .1));
+        ends = ap (finish r) back ∙ finish-is r ok ∙ sym (finish-back r tail (soon .1));
         none-before = λ σ v. rw back (none-sooner r ok σ v);
         counted = ap length back ∙ moves-is r ok ∙ sym (moves-back r tail few);
         rest = drop-at (planBytes r) tail (planLength r) bytes-long;
         long = length-append (planBytes r) tail ∙ omega (arith, bytes-long, length-drop (planLength r) xs);
       }
 
-  has-room : planLength r ≤ length xs → answerFor r (length xs) ≡ Plan (finishOf r) (moves r) (tight r)
-  has-room room = rw (le-ltb 4294967295 (finishOf r) (omega (arith, finish-fits r ok)), le-ltb (length xs) (planLength r) room)
+  has-room : planLength r ≤ length xs → answerFor r (length xs) ≡ Plan (finishOf r (offset r)) (moves r (offset r)) (tight r (offset r))
+  has-room room = rw (le-ltb 4294967295 (finishOf r (offset r)) (omega (arith, finish-fits r ok)), le-ltb (length xs) (planLength r) room)
 
   short : length xs < planLength r → answerFor r (length xs) ≡ Refused 13 0
-  short room = rw (le-ltb 4294967295 (finishOf r) (omega (arith, finish-fits r ok)), lt-ltb (length xs) (planLength r) room)
+  short room = rw (le-ltb 4294967295 (finishOf r (offset r)) (omega (arith, finish-fits r ok)), lt-ltb (length xs) (planLength r) room)
 
 module _ (s xs : List ℕ) where
   module _ (kind n : ℕ) (read : jobOf s .answer ≡ Read kind n) where
@@ -90,10 +91,10 @@ module _ (s xs : List ℕ) where
         let r = ringFor (jobOf s) kind n in
         let ok = job-accepted s kind n read in
         let a = has-room r ok xs room in
-        let p : planAnswer (jobOf s) (length xs) ≡ Plan (finishOf r) (moves r) (tight r) = sym (read-answer s (jobOf s) refl kind n read (length xs)) ∙ a in
-        let m : planMemory (jobOf s) xs ≡ planBytes r ++ drop (planLength r) xs = sym (read-memory s (jobOf s) refl kind n read xs (Plan (finishOf r) (moves r) (tight r)) (sym a)) in
+        let p : planAnswer (jobOf s) (length xs) ≡ Plan (finishOf r (offset r)) (moves r (offset r)) (tight r (offset r)) = sym (read-answer s (jobOf s) refl kind n read (length xs)) ∙ a in
+        let m : planMemory (jobOf s) xs ≡ planBytes r ++ drop (planLength r) xs = sym (read-memory s (jobOf s) refl kind n read xs (Plan (finishOf r (offset r)) (moves r (offset r)) (tight r (offset r))) (sym a)) in
         subst (λ (q : Planned). Closed r xs (planMemory (jobOf s) xs) q) (sym p)
-        (subst (λ (ys : List ℕ). Closed r xs ys (Plan (finishOf r) (moves r) (tight r))) (sym m) (laid r ok xs room))
+        (subst (λ (ys : List ℕ). Closed r xs ys (Plan (finishOf r (offset r)) (moves r (offset r)) (tight r (offset r)))) (sym m) (laid r ok xs room))
 
     -- "13: result longer than the lent byte buffer"; "every lent buffer keeps its bytes"
     pub no-room : length xs < planLength (ringFor (jobOf s) kind n) → (planAnswer (jobOf s) (length xs) ≡ Refused 13 0) × (planMemory (jobOf s) xs ≡ xs)

@@ -13,6 +13,7 @@ use Rattle.ring.specs.Plan.{level, offset, ahead, behind, plan}
 use Rattle.ring.proofs.Sums.{sum-ones}
 use Rattle.ring.proofs.Totals.{count-all}
 use Rattle.ring.proofs.Neighbours.{prev-below}
+use Rattle.ring.proofs.Offset.{fits}
 use Rattle.ring.proofs.Planned.{sent-by, received-by}
 use Rattle.ring.proofs.Best.{timed}
 use Rattle.ring.proofs.Fill.{fill-same}
@@ -23,12 +24,12 @@ use Rattle.planner.proofs.SumOutline.{level-at, carries-few}
 
 module _ (r : Ring) (ok : Accepted r) (i : ℕ) (h : i < r .n) where
   -- forward on its own link, and back on the link before
-  pub sends-are : ahead r i + behind r (prev r i) ≡ sendsBy r (sender r) i
-  sends-are = omega (arith, count-all (λ s. eqb (sender r s) i) (plan r), sent-by r (timed r ok .back) (λ s. true) i h, sum-ones (ahead r i), sum-ones (behind r (prev r i)))
+  pub sends-are : ahead r (offset r) i + behind r (offset r) (prev (r .n) i) ≡ sendsBy r (sender r) i
+  sends-are = omega (arith, count-all (λ s. eqb (sender r s) i) (plan r (offset r)), sent-by r (offset r) (timed r (offset r) ok (fits r ok) .back) (λ s. true) i h, sum-ones (ahead r (offset r) i), sum-ones (behind r (offset r) (prev (r .n) i)))
 
   -- forward from the link before, and back on its own link
-  pub receipts-are : ahead r (prev r i) + behind r i ≡ sendsBy r (receiver r) i
-  receipts-are = omega (arith, count-all (λ s. eqb (receiver r s) i) (plan r), received-by r (timed r ok .back) (λ s. true) i h, sum-ones (ahead r (prev r i)), sum-ones (behind r i))
+  pub receipts-are : ahead r (offset r) (prev (r .n) i) + behind r (offset r) i ≡ sendsBy r (receiver r) i
+  receipts-are = omega (arith, count-all (λ s. eqb (receiver r s) i) (plan r (offset r)), received-by r (offset r) (timed r (offset r) ok (fits r ok) .back) (λ s. true) i h, sum-ones (ahead r (offset r) (prev (r .n) i)), sum-ones (behind r (offset r) i))
 
 -- by the numbers of the ring's plan, and a list with its levels in the first places
 module _ (r : Ring) (ok : Accepted r) (o : Outline) (is : o ≡ outlineOf r) (was levels : List ℕ) (room : r .n ≤ length was) (put : levels ≡ fill (level r) (r .n) was) where
@@ -42,7 +43,7 @@ module _ (r : Ring) (ok : Accepted r) (o : Outline) (is : o ≡ outlineOf r) (wa
   unfolding ahead behind
   traffic-is =
       let here = level-at r ok was levels room put in
-      let before : (i : ℕ) → i < r .n → getD levels (prev r i) 0 ≡ level r (prev r i) = λ i h. here (prev r i) (prev-below r i h) in
+      let before : (i : ℕ) → i < r .n → getD levels (prev (r .n) i) 0 ≡ level r (prev (r .n) i) = λ i h. here (prev (r .n) i) (prev-below (r .n) i h) in
       let sends =
       fill-same {A = ℕ} _ _ (r .n) (replicate 128 0)
       (record { at = λ i h. (λ t. (here i h t - offset-is t) + (offset-is t - before i h t)) ∙ sends-are r ok i h })

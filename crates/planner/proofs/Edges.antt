@@ -19,10 +19,10 @@ use Rattle.hop.proofs.Grow.{Begins, more}
 use Rattle.planner.proofs.Bytes.{link-long}
 
 -- the runs below e are written, up to send `begin`
-pub record Ran (from first step : List ℕ) (m count link way : ℕ) (part : List ℕ) (begin e : ℕ) (now : List ℕ) : Type 0 where
+pub record Ran (from first step : List ℕ) (m count link direction : ℕ) (part : List ℕ) (begin e : ℕ) (now : List ℕ) : Type 0 where
   pub within : begin ≤ count
   pub edge : begin ≡ edgeOf from m count e
-  pub front : Begins part (runsBytes from first step m count link way e) (6 * begin) now
+  pub front : Begins part (runsBytes from first step m count link direction e) (6 * begin) now
 
 -- send x after the first of a run, counted from the run's first send
 again : (first step from x : ℕ) → first + x * step ≡ first + step * (from + x - from)
@@ -67,17 +67,17 @@ module _ {from first step : List ℕ} {m count : ℕ} (even : Even from first st
           let is : edgeOf from m count (e + 1) ≡ count = rw p in
           made (omega (arith, even .cover .within e h)) (omega arith) (λ x a b. (h, a, omega arith, λ q. omega arith))
 
-  module _ (link way : ℕ) (part : List ℕ) where
-    pub none-ran : Ran from first step m count link way part 0 0 part
+  module _ (link direction : ℕ) (part : List ℕ) where
+    pub none-ran : Ran from first step m count link direction part 0 0 part
     unfolding joined
     none-ran = record { within = omega arith; edge = sym edge-first; front = record { is = refl; long = refl; same = refl } }
 
-    pub one-ran : (begin e end : ℕ) (now ys : List ℕ) → e < m → end ≡ edgeOf from m count (e + 1) → 6 * count ≤ length part → Ran from first step m count link way part begin e now
-        → ys ≡ linkBytes link way (λ x. getD first e 0 + x * getD step e 0) (end - begin) ++ drop (6 * (end - begin)) (midOf (6 * begin) (length now - 6 * begin) now)
-        → Ran from first step m count link way part end (e + 1) (putMid (6 * begin) (length now - 6 * begin) now ys)
+    pub one-ran : (begin e end : ℕ) (now ys : List ℕ) → e < m → end ≡ edgeOf from m count (e + 1) → 6 * count ≤ length part → Ran from first step m count link direction part begin e now
+        → ys ≡ linkBytes link direction (λ x. getD first e 0 + x * getD step e 0) (end - begin) ++ drop (6 * (end - begin)) (midOf (6 * begin) (length now - 6 * begin) now)
+        → Ran from first step m count link direction part end (e + 1) (putMid (6 * begin) (length now - 6 * begin) now ys)
     one-ran begin e end now ys h is room t wrote =
         let r = run-at e h in
-        let run : ℕ → ℕ → ℕ → List ℕ = λ e b z. linkBytes link way (λ x. getD first e 0 + x * getD step e 0) (z - b) in
+        let run : ℕ → ℕ → ℕ → List ℕ = λ e b z. linkBytes link direction (λ x. getD first e 0 + x * getD step e 0) (z - b) in
         let edge : ℕ → ℕ = edgeOf from m count in
         let n : 6 * (edge (e + 1) - edge e) ≡ 6 * (end - begin) = omega arith in
         let k : 6 * end ≡ 6 * begin + 6 * (end - begin) = omega arith in
@@ -85,28 +85,28 @@ module _ {from first step : List ℕ} {m count : ℕ} (even : Even from first st
         record {
           within = omega arith;
           edge = is;
-          front = rw k (more [] (λ e. run e (edge e) (edge (e + 1))) e (6 * (end - begin)) ys (t .front) (link-long link way _ (edge (e + 1) - edge e) ∙ n) (omega arith) w);
+          front = rw k (more [] (λ e. run e (edge e) (edge (e + 1))) e (6 * (end - begin)) ys (t .front) (link-long link direction _ (edge (e + 1) - edge e) ∙ n) (omega arith) w);
         }
 
-    pub all-ran : {begin : ℕ} {now : List ℕ} → Ran from first step m count link way part begin m now → now ≡ runsBytes from first step m count link way m ++ drop (6 * count) part
-    all-ran t = t .front .is ∙ ap (λ (k : ℕ). runsBytes from first step m count link way m ++ drop (6 * k) part) (t .edge ∙ edge-last)
+    pub all-ran : {begin : ℕ} {now : List ℕ} → Ran from first step m count link direction part begin m now → now ≡ runsBytes from first step m count link direction m ++ drop (6 * count) part
+    all-ran t = t .front .is ∙ ap (λ (k : ℕ). runsBytes from first step m count link direction m ++ drop (6 * k) part) (t .edge ∙ edge-last)
 
   -- the starts are those that the runs say: then the runs' records are the link's
-  module _ (start : ℕ → ℕ) (says : (e x : ℕ) → In (each from) count m e x → getD first e 0 + getD step e 0 * (x - getD from e 0) ≡ start x) (link way : ℕ) where
-    runs-below : (k : ℕ) → k ≤ m → runsBytes from first step m count link way k ≡ linkBytes link way start (edgeOf from m count k)
+  module _ (start : ℕ → ℕ) (says : (e x : ℕ) → In (each from) count m e x → getD first e 0 + getD step e 0 * (x - getD from e 0) ≡ start x) (link direction : ℕ) where
+    runs-below : (k : ℕ) → k ≤ m → runsBytes from first step m count link direction k ≡ linkBytes link direction start (edgeOf from m count k)
     unfolding joined
     runs-below zero h = rw edge-first
     runs-below (suc e) h =
         let r = run-at e h in
         let a = getD from e 0 in
         let z = edgeOf from m count (e + 1) in
-        let send : ℕ → List ℕ = λ t. sendBytes (record { link = link; way = way; start = t }) in
+        let send : ℕ → List ℕ = λ t. sendBytes (record { link = link; direction = direction; start = t }) in
         let q : a + (z - a) ≡ z = omega arith in
-        let run : linkBytes link way (λ x. getD first e 0 + x * getD step e 0) (z - edgeOf from m count e) ≡ joined (λ x. send (start (a + x))) (z - a) =
+        let run : linkBytes link direction (λ x. getD first e 0 + x * getD step e 0) (z - edgeOf from m count e) ≡ joined (λ x. send (start (a + x))) (z - a) =
         rw (r .begins) (joined-same _ _ (z - a) (λ x l. ap send (again (getD first e 0) (getD step e 0) a x ∙ says e (a + x) (r .owns (a + x) (omega arith) (omega arith)))))
         in
-        (λ i. (runs-below e (omega arith) ∙ ap (λ (k : ℕ). linkBytes link way start k) (r .begins)) i ++ run i)
-        ∙ sym (joined-add (λ x. send (start x)) a (z - a)) ∙ ap (λ (k : ℕ). linkBytes link way start k) (q ∙ ap (λ (k : ℕ). edgeOf from m count k) (add-one e))
+        (λ i. (runs-below e (omega arith) ∙ ap (λ (k : ℕ). linkBytes link direction start k) (r .begins)) i ++ run i)
+        ∙ sym (joined-add (λ x. send (start x)) a (z - a)) ∙ ap (λ (k : ℕ). linkBytes link direction start k) (q ∙ ap (λ (k : ℕ). edgeOf from m count k) (add-one e))
 
-    pub runs-are : runsBytes from first step m count link way m ≡ linkBytes link way start count
+    pub runs-are : runsBytes from first step m count link direction m ≡ linkBytes link direction start count
     runs-are = rw edge-last at (runs-below m (omega arith))

@@ -10,27 +10,27 @@ use Rattle.ring.specs.Lists.{each}
 use Rattle.planner.specs.Runs.{oneWay, startBack, Runs}
 use Rattle.planner.specs.EvenRuns.{linkBytes, Even, runsBytes}
 use Rattle.planner.specs.Outline.{between}
-use Rattle.planner.specs.Links.{wayBy, startTwo, pieceBy}
+use Rattle.planner.specs.Links.{directionBy, startTwo, pieceBy}
 use Rattle.ring.proofs.Joined.{joined-same}
 use Rattle.planner.proofs.Edges.{runs-are}
 
 -- records by their starts, and so many of them
-pub same-records : (link way : ℕ) (s t : ℕ → ℕ) (k m : ℕ) (xs : List ℕ) → k ≡ m → ((x : ℕ) → x < k → s x ≡ t x) → linkBytes link way s k ++ drop (6 * k) xs ≡ linkBytes link way t m ++ drop (6 * m) xs
-same-records link way s t k m xs e h =
-    ap (λ (l : List ℕ). l ++ drop (6 * k) xs) (joined-same _ _ k (λ x l. ap (λ (y : ℕ). sendBytes (record { link = link; way = way; start = y })) (h x l)))
-    ∙ ap (λ (j : ℕ). linkBytes link way t j ++ drop (6 * j) xs) e
+pub same-records : (link direction : ℕ) (s t : ℕ → ℕ) (k m : ℕ) (xs : List ℕ) → k ≡ m → ((x : ℕ) → x < k → s x ≡ t x) → linkBytes link direction s k ++ drop (6 * k) xs ≡ linkBytes link direction t m ++ drop (6 * m) xs
+same-records link direction s t k m xs e h =
+    ap (λ (l : List ℕ). l ++ drop (6 * k) xs) (joined-same _ _ k (λ x l. ap (λ (y : ℕ). sendBytes (record { link = link; direction = direction; start = y })) (h x l)))
+    ∙ ap (λ (j : ℕ). linkBytes link direction t j ++ drop (6 * j) xs) e
 
 module _ (link level offset rounds cost : ℕ) (xs : List ℕ) where
   pub two-back : (first : ℕ) → level < offset → first ≡ cost * (rounds - (offset - level))
       → linkBytes link 1 (λ x. first + x * cost) (offset - level) ++ drop (6 * (offset - level)) xs
-      ≡ linkBytes link (wayBy level offset) (startTwo level offset rounds cost) (between level offset) ++ drop (6 * between level offset) xs
+      ≡ linkBytes link (directionBy level offset) (startTwo level offset rounds cost) (between level offset) ++ drop (6 * between level offset) xs
   two-back first l e =
       rw (lt-ltb 0 (offset - level) (omega arith))
       (same-records link 1 (λ x. first + x * cost) (λ x. (rounds - (offset - level) + x) * cost) (offset - level) (between level offset) xs (omega arith) (λ x h. omega arith))
 
   pub two-ahead : offset ≤ level
       → linkBytes link 0 (λ x. 0 + x * cost) (level - offset) ++ drop (6 * (level - offset)) xs
-      ≡ linkBytes link (wayBy level offset) (startTwo level offset rounds cost) (between level offset) ++ drop (6 * between level offset) xs
+      ≡ linkBytes link (directionBy level offset) (startTwo level offset rounds cost) (between level offset) ++ drop (6 * between level offset) xs
   two-ahead l =
       rw (le-ltb 0 (offset - level) (omega arith))
       (same-records link 0 (λ x. 0 + x * cost) (λ x. x * cost) (level - offset) (between level offset) xs (omega arith) (λ x h. omega arith))
@@ -47,14 +47,14 @@ module _ (from first step : List ℕ) (count m : ℕ) (start : ℕ → ℕ) (t :
         soon = λ e x o. omega (arith, t .is e x o, soon x (o .2));
       }
 
-  pub runs-records : (link way : ℕ) (xs : List ℕ) → Even from first step m count
-      → runsBytes from first step m count link way m ++ drop (6 * count) xs ≡ linkBytes link way start count ++ drop (6 * count) xs
-  runs-records link way xs even = ap (λ (l : List ℕ). l ++ drop (6 * count) xs) (runs-are even start (t .is) link way)
+  pub runs-records : (link direction : ℕ) (xs : List ℕ) → Even from first step m count
+      → runsBytes from first step m count link direction m ++ drop (6 * count) xs ≡ linkBytes link direction start count ++ drop (6 * count) xs
+  runs-records link direction xs even = ap (λ (l : List ℕ). l ++ drop (6 * count) xs) (runs-are even start (t .is) link direction)
 
 -- the records of a link, by kind
 module _ (kind n : ℕ) (loads costs : List ℕ) (level offset rounds i : ℕ) (xs : List ℕ) where
   pub piece-two : kind ≡ 3
-      → linkBytes i (wayBy level offset) (startTwo level offset rounds (getD costs i 0)) (between level offset) ++ drop (6 * between level offset) xs
+      → linkBytes i (directionBy level offset) (startTwo level offset rounds (getD costs i 0)) (between level offset) ++ drop (6 * between level offset) xs
       ≡ pieceBy kind n loads costs level offset rounds i ++ drop (6 * between level offset) xs
   piece-two e = rw (eq-eqb kind 3 e)
 

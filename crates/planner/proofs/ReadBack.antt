@@ -9,7 +9,7 @@ use lib.Seq.{take-length, getD-append-add}
 use Rattle.ring.specs.Lists.{Each}
 use Rattle.ring.specs.Boards.{Ring}
 use Rattle.ring.specs.Schedule.{Send, Allowed, finish}
-use Rattle.ring.specs.Plan.{plan, finishOf, moves}
+use Rattle.ring.specs.Plan.{offset, plan, finishOf, moves}
 use Rattle.ring.specs.Bytes.{wordAt, wordBytes}
 use Rattle.planner.specs.PlanBytes.{sendBytes, recordsOf, headBytes, planBytes, finishIn, movesIn, planIn, recordPlace, recordAt, recordsIn}
 use Rattle.planner.proofs.Bytes.{send-long, head-long}
@@ -23,7 +23,7 @@ word-back x h = omega arith
 -- a send that a record has room for
 pub record Fitting (s : Send) : Type 0 where
   pub link : s .link < 256
-  pub way : s .way < 256
+  pub direction : s .direction < 256
   pub start : s .start < 4294967296
 
 -- the sends of a schedule that ends in time
@@ -31,12 +31,12 @@ pub fitting : (r : Ring) → r .n ≤ 256 → (σ : List Send) → Each (Allowed
 unfolding finish
 fitting r few [] a f = tt
 fitting r few (s ∷ σ) a f =
-    let way : s .way < 256 = ⊎-elim (λ e. omega arith) (λ e. omega arith) (a .0 .1) in
-    (record { link = omega arith; way = way; start = omega arith }, fitting r few σ (a .1) (omega arith))
+    let direction : s .direction < 256 = ⊎-elim (λ e. omega arith) (λ e. omega arith) (a .0 .1) in
+    (record { link = omega arith; direction = direction; start = omega arith }, fitting r few σ (a .1) (omega arith))
 
 -- no send
 abbrev none : Send
-none = record { link = 0; way = 0; start = 0 }
+none = record { link = 0; direction = 0; start = 0 }
 
 -- each of a list, by its place
 each-at : (P : Send → Type 0) (σ : List Send) → Each P σ → (k : ℕ) → k < length σ → P (getD σ k none)
@@ -49,7 +49,7 @@ behind : (xs ys : List ℕ) (n at : ℕ) → length xs ≡ n → recordAt (xs ++
 behind xs ys n at e =
     λ t. record {
       link = by (n + at) at refl t;
-      way = by (n + at + 1) (at + 1) (omega arith) t;
+      direction = by (n + at + 1) (at + 1) (omega arith) t;
       start = (by (n + at + 2) (at + 2) (omega arith) t * 256 + by (n + at + 2 + 1) (at + 2 + 1) (omega arith) t) * 65536
           + (by (n + at + 2 + 2) (at + 2 + 2) (omega arith) t * 256 + by (n + at + 2 + 2 + 1) (at + 2 + 2 + 1) (omega arith) t);
     }
@@ -60,34 +60,34 @@ behind xs ys n at e =
 record-at : (σ : List Send) → Each Fitting σ → (rest : List ℕ) (k : ℕ) → k < length σ → recordAt (recordsOf σ ++ rest) (6 * k) ≡ getD σ k none
 unfolding recordsOf sendBytes
 record-at [] h rest k l = absurd (omega arith)
-record-at (s ∷ σ) h rest zero l = λ t. record { link = s .link; way = s .way; start = word-back (s .start) (h .0 .start) t }
+record-at (s ∷ σ) h rest zero l = λ t. record { link = s .link; direction = s .direction; start = word-back (s .start) (h .0 .start) t }
 record-at (s ∷ σ) h rest (suc k) l =
     let e : 6 * suc k ≡ 6 + 6 * k = omega arith in
     rw (e, append-assoc (sendBytes s) (recordsOf σ) rest) (behind (sendBytes s) (recordsOf σ ++ rest) 6 (6 * k) (send-long s) ∙ record-at σ (h .1) rest k (omega arith))
 
 module _ (r : Ring) (rest : List ℕ) where
-  pub finish-back : finishOf r < 4294967296 → finishIn (planBytes r ++ rest) ≡ finishOf r
+  pub finish-back : finishOf r (offset r) < 4294967296 → finishIn (planBytes r ++ rest) ≡ finishOf r (offset r)
   unfolding headBytes
-  finish-back h = word-back (finishOf r) h
+  finish-back h = word-back (finishOf r (offset r)) h
 
-  pub moves-back : moves r < 4294967296 → movesIn (planBytes r ++ rest) ≡ moves r
+  pub moves-back : moves r (offset r) < 4294967296 → movesIn (planBytes r ++ rest) ≡ moves r (offset r)
   unfolding headBytes
-  moves-back h = word-back (moves r) h
+  moves-back h = word-back (moves r (offset r)) h
 
-module _ (r : Ring) (fit : Each Fitting (plan r)) (rest : List ℕ) where
-  record-is : (k : ℕ) → k < moves r → recordAt (planBytes r ++ rest) (recordPlace k) ≡ getD (plan r) k none
+module _ (r : Ring) (fit : Each Fitting (plan r (offset r))) (rest : List ℕ) where
+  record-is : (k : ℕ) → k < moves r (offset r) → recordAt (planBytes r ++ rest) (recordPlace k) ≡ getD (plan r (offset r)) k none
   record-is k h =
-      let head = headBytes (r .kind) (r .n) (finishOf r) (moves r) in
-      rw (append-assoc head (recordsOf (plan r)) rest)
-      (behind head (recordsOf (plan r) ++ rest) 15 (6 * k) (head-long (r .kind) (r .n) (finishOf r) (moves r)) ∙ record-at (plan r) fit rest k (omega (arith, as-many r)))
+      let head = headBytes (r .kind) (r .n) (finishOf r (offset r)) (moves r (offset r)) in
+      rw (append-assoc head (recordsOf (plan r (offset r))) rest)
+      (behind head (recordsOf (plan r (offset r)) ++ rest) 15 (6 * k) (head-long (r .kind) (r .n) (finishOf r (offset r)) (moves r (offset r))) ∙ record-at (plan r (offset r)) fit rest k (omega (arith, as-many r (offset r))))
 
-  pub plan-read : recordsIn (planBytes r ++ rest) (moves r) ≡ plan r
+  pub plan-read : recordsIn (planBytes r ++ rest) (moves r (offset r)) ≡ plan r (offset r)
   plan-read =
-      joined-same _ (λ j. getD (plan r) j none ∷ []) (moves r) (λ k h t. record-is k h t ∷ [])
-      ∙ sym (first-of none (moves r) (plan r) (omega (arith, as-many r))) ∙ ap (λ (k : ℕ). take k (plan r)) (sym (as-many r)) ∙ take-length (plan r)
+      joined-same _ (λ j. getD (plan r (offset r)) j none ∷ []) (moves r (offset r)) (λ k h t. record-is k h t ∷ [])
+      ∙ sym (first-of none (moves r (offset r)) (plan r (offset r)) (omega (arith, as-many r (offset r)))) ∙ ap (λ (k : ℕ). take k (plan r (offset r))) (sym (as-many r (offset r))) ∙ take-length (plan r (offset r))
 
-  pub link-read : Each (Allowed r) (plan r) → (k : ℕ) → k < moves r → getD (planBytes r ++ rest) (recordPlace k) 0 < r .n
-  link-read allowed k h = rw (ap (λ (s : Send). s .link) (record-is k h)) (each-at (Allowed r) (plan r) allowed k (omega (arith, as-many r)) .0)
+  pub link-read : Each (Allowed r) (plan r (offset r)) → (k : ℕ) → k < moves r (offset r) → getD (planBytes r ++ rest) (recordPlace k) 0 < r .n
+  link-read allowed k h = rw (ap (λ (s : Send). s .link) (record-is k h)) (each-at (Allowed r) (plan r (offset r)) allowed k (omega (arith, as-many r (offset r))) .0)
 
-  pub plan-back : moves r < 4294967296 → planIn (planBytes r ++ rest) ≡ plan r
+  pub plan-back : moves r (offset r) < 4294967296 → planIn (planBytes r ++ rest) ≡ plan r (offset r)
   plan-back few = ap (recordsIn (planBytes r ++ rest)) (moves-back r rest few) ∙ plan-read

@@ -9,17 +9,17 @@ use mathlib.Core.Bool.{false}
 use lib.Dec.{eqb}
 use lib.ListN.{getD}
 use lib.IntN.{ℤ}
-use Rattle.ring.specs.Boards.{Ring, ringIn, Accepted, OneCost, prev}
+use Rattle.ring.specs.Boards.{ringIn, Accepted, OneCost, prev}
 use Rattle.ring.specs.Plan.{endBack, endsAfter, startOf}
 use Rattle.planner.specs.Runs.{oneWay, startBack}
 
-pub prev-zero : (r : Ring) (l : ℕ) → l ≡ 0 → r .n - 1 ≡ prev r l
-prev-zero r zero e = refl
-prev-zero r (suc l) e = absurd (omega arith)
+pub prev-zero : (n l : ℕ) → l ≡ 0 → n - 1 ≡ prev n l
+prev-zero n zero e = refl
+prev-zero n (suc l) e = absurd (omega arith)
 
-pub prev-more : (r : Ring) (l : ℕ) → (l ≡ 0 → ⊥) → l - 1 ≡ prev r l
-prev-more r zero e = absurd (e refl)
-prev-more r (suc l) e = omega arith
+pub prev-more : (n l : ℕ) → (l ≡ 0 → ⊥) → l - 1 ≡ prev n l
+prev-more n zero e = absurd (e refl)
+prev-more n (suc l) e = omega arith
 
 module _ (kind n : ℕ) (loads : List ℕ) (surpluses : List ℤ) (costs : List ℕ) where
   pub back-same : (d i : ℕ) → endBack (oneWay n loads costs) d i ≡ endBack (ringIn kind n loads surpluses costs) d i
@@ -29,9 +29,9 @@ module _ (kind n : ℕ) (loads : List ℕ) (surpluses : List ℤ) (costs : List 
   back-same (suc d) (suc i) = ap (λ (f : ℕ → ℕ). endsAfter f (getD costs (suc i) 0) (getD loads (suc i) 0)) (back-same d i)
 
   -- what a planner of kinds 1 and 2 has of `runs`: the starts of document 01
-  pub starts-same : eqb kind 3 ≡ false → (i x : ℕ) → startBack (oneWay n loads costs) i x ≡ startOf (ringIn kind n loads surpluses costs) i (suc x)
+  pub starts-same : eqb kind 3 ≡ false → (o i x : ℕ) → startBack (oneWay n loads costs) i x ≡ startOf (ringIn kind n loads surpluses costs) o i (suc x)
   unfolding startOf
-  starts-same one i x = rw one (ap (λ (f : ℕ → ℕ). f (suc x) - getD costs i 0) (back-same n i))
+  starts-same one o i x = rw one (ap (λ (f : ℕ → ℕ). f (suc x) - getD costs i 0) (back-same n i))
 
   pub one-way : Accepted (ringIn kind n loads surpluses costs) → Accepted (oneWay n loads costs)
   one-way ok =

@@ -76,7 +76,7 @@ module _ (r : Ring) (ok : Accepted r) (i count : ℕ) (from first step : ℕ →
       level x k = omega (arith, reached, apart (r .cost l) past x k)
 
     -- link l laid, and the link k before it
-    module _ (from' first' step' : ℕ → ℕ) (m' d k : ℕ) (e : f ≡ suc d) (p : k ≡ prev r l)
+    module _ (from' first' step' : ℕ → ℕ) (m' d k : ℕ) (e : f ≡ suc d) (p : k ≡ prev (r .n) l)
         (a : Laid from first step from' first' step' count m (r .cost l) past (spent + r .cost l) m') where
       -- the rest of the walk, at a send that this link may hold back
       further : (x : ℕ) → past ≤ x
@@ -92,7 +92,7 @@ module _ (r : Ring) (ok : Accepted r) (i count : ℕ) (from first step : ℕ →
           → Walk r i count from' first' step' m' d k (past + r .load l) (spent + r .cost l)
       on g' shows before from-here under =
           record {
-            here = rw p (prev-below r l (w .here));
+            here = rw p (prev-below (r .n) l (w .here));
             some = omega (arith, w .some);
             g = g';
             shows = shows;
@@ -128,14 +128,14 @@ module _ (r : Ring) (ok : Accepted r) (i count : ℕ) (from first step : ℕ →
 
 -- a send starts when the one before it ends, and not before the item that it waits for is there
 module _ (r : Ring) (ok : Accepted r) (i : ℕ) (h : i < r .n) where
-  start-is : (d l : ℕ) → r .n ≡ suc d → l ≡ prev r i → (x : ℕ) → startBack r i x ≡ max (r .cost i * x) (endBack r d l (suc x - r .load i))
+  start-is : (d l : ℕ) → r .n ≡ suc d → l ≡ prev (r .n) i → (x : ℕ) → startBack r i x ≡ max (r .cost i * x) (endBack r d l (suc x - r .load i))
   start-is d l e p x = rw p (omega (arith, ap (λ (f : ℕ). endBack r f i (suc x)) e, back-closed r ok d i x h))
 
   -- the items that the board has of its own go at the link's own pace
   pub own-pace : (x : ℕ) → x < r .load i → startBack r i x ≡ r .cost i * x
   own-pace x b =
       let q : suc x - r .load i ≡ 0 = omega arith in
-      omega (arith, start-is (r .n - 1) (prev r i) (omega arith) refl x, ap (endBack r (r .n - 1) (prev r i)) q, back-zero r ok (r .n - 1) (prev r i))
+      omega (arith, start-is (r .n - 1) (prev (r .n) i) (omega arith) refl x, ap (endBack r (r .n - 1) (prev (r .n) i)) q, back-zero r ok (r .n - 1) (prev (r .n) i))
 
 -- the first link's own line
 module _ (from first step : ℕ → ℕ) (f : from 0 ≡ 0) (v : first 0 ≡ 0) (count : ℕ) where
@@ -161,10 +161,10 @@ module _ (from first step : ℕ → ℕ) (f : from 0 ≡ 0) (v : first 0 ≡ 0) 
           slow = λ x l. omega (arith, t);
         }
 
-    pub begin : (d l : ℕ) → r .n ≡ suc d → l ≡ prev r i → Walk r i count from first step 1 d l (r .load i) 0
+    pub begin : (d l : ℕ) → r .n ≡ suc d → l ≡ prev (r .n) i → Walk r i count from first step 1 d l (r .load i) 0
     begin d l e p =
         record {
-          here = rw p (prev-below r i h);
+          here = rw p (prev-below (r .n) i h);
           some = ok .loads i h .0;
           g = λ x. r .cost i * x;
           shows = one-shows;

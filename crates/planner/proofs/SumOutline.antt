@@ -13,6 +13,7 @@ use Rattle.ring.specs.Boards.{Ring, Accepted, mostLoad}
 use Rattle.ring.specs.Plan.{level, low, high, offset, rounds, surplusSize, finishOf}
 use Rattle.ring.proofs.Fill.{fill-at, fill-length}
 use Rattle.ring.proofs.Level.{low-le, le-high, spread}
+use Rattle.ring.proofs.Offset.{fits}
 use Rattle.ring.proofs.Bounds.{items-most, carries-most}
 use Rattle.planner.specs.declared.sums.Span.{Span}
 use Rattle.planner.specs.declared.sums.Tally.{Tally}
@@ -39,7 +40,7 @@ module _ (r : Ring) (ok : Accepted r) (was xs : List ℕ) (room : r .n ≤ lengt
   levels-long = rw levels (omega (arith, fill-length (level r) was 0 (r .n)))
 
   pub carries-few : (i : ℕ) → i < r .n → carriesIn xs (offset r) i ≤ 128 * mostLoad
-  carries-few i h = omega (arith, carries-is r (omega arith) xs level-at i h, carries-most r ok i h, items-most r ok)
+  carries-few i h = omega (arith, carries-is r (offset r) (omega arith) xs level-at i h, carries-most r ok (offset r) (fits r ok) i h, items-most r ok)
 
   module _ (s : Span) (ends : s ≡ spanOf r) where
     pub spread-most : (s .low ≤ s .high) × (s .high - s .low ≤ 128 * mostLoad)
@@ -63,6 +64,6 @@ module _ (r : Ring) (ok : Accepted r) (was xs : List ℕ) (room : r .n ≤ lengt
             → _≡_ {A = Outline} (record { offset = o; rounds = turns; moves = u .moves; tight = u .tight; finish = f }) (outlineOf r)
         unfolding finishOf
         whole costs cost u tally f finish =
-            let v = tally ∙ ap (λ (x : ℕ). tallyOf (r .n) xs x costs) offset-is ∙ tally-is r (omega arith) xs level-at costs cost in
+            let v = tally ∙ ap (λ (x : ℕ). tallyOf (r .n) xs x costs) offset-is ∙ tally-is r (offset r) (omega arith) xs level-at costs cost in
             let e = finish ∙ (λ t. pick (eqb (r .kind) 3) (rounds-is t * r .cost 0) (v t .slowest .0)) in
             λ t. record { offset = offset-is t; rounds = rounds-is t; moves = v t .moves; tight = v t .tight; finish = record { 0 = e t } }

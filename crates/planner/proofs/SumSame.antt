@@ -7,7 +7,7 @@ use lib.Dec.{ltb}
 use lib.ListN.{getD}
 use Rattle.ring.specs.Numbers.{pick, sum, greatest, peak}
 use Rattle.ring.specs.Boards.{Ring}
-use Rattle.ring.specs.Plan.{level, high, offset, ahead, behind, carries, moves, tight}
+use Rattle.ring.specs.Plan.{level, high, ahead, behind, carries, moves, tight}
 use Rattle.planner.specs.declared.sums.Tally.{Tally}
 use Rattle.planner.specs.Outline.{tallyOf, carriesIn}
 use Rattle.ring.proofs.Sums.{sum-eq, peak-is}
@@ -30,19 +30,19 @@ module _ (f g : ℕ → ℕ) where
         top = λ t. pick (ltb (m t) (e t)) (suc k) (s .top t);
       }
 
-module _ (r : Ring) (some : 1 ≤ r .n) (xs : List ℕ) (is : (i : ℕ) → i < r .n → getD xs i 0 ≡ level r i) where
-  pub carries-is : (i : ℕ) → i < r .n → carriesIn xs (offset r) i ≡ carries r i
+module _ (r : Ring) (o : ℕ) (some : 1 ≤ r .n) (xs : List ℕ) (is : (i : ℕ) → i < r .n → getD xs i 0 ≡ level r i) where
+  pub carries-is : (i : ℕ) → i < r .n → carriesIn xs o i ≡ carries r o i
   unfolding ahead behind
   carries-is i h = omega (arith, is i h)
 
-  pub items-are : sum (carriesIn xs (offset r)) (r .n) ≡ moves r
+  pub items-are : sum (carriesIn xs o) (r .n) ≡ moves r o
   unfolding moves
-  items-are = sum-eq (carriesIn xs (offset r)) (carries r) (r .n) carries-is
+  items-are = sum-eq (carriesIn xs o) (carries r o) (r .n) carries-is
 
   pub tally-is : (costs : List ℕ) → ((i : ℕ) → i < r .n → getD costs i 0 ≡ r .cost i)
-      → _≡_ {A = Tally} (tallyOf (r .n) xs (offset r) costs) (record { moves = moves r; tight = tight r; slowest = record { 0 = greatest (λ i. carries r i * r .cost i) (r .n - 1) } })
+      → _≡_ {A = Tally} (tallyOf (r .n) xs o costs) (record { moves = moves r o; tight = tight r o; slowest = record { 0 = greatest (λ i. carries r o i * r .cost i) (r .n - 1) } })
   unfolding tight
   tally-is costs cost =
-      let p = same (carriesIn xs (offset r)) (carries r) (r .n - 1) (λ i h. carries-is i (omega arith)) in
-      let q = same (λ i. carriesIn xs (offset r) i * getD costs i 0) (λ i. carries r i * r .cost i) (r .n - 1) (λ i h t. carries-is i (omega arith) t * cost i (omega arith) t) in
+      let p = same (carriesIn xs o) (carries r o) (r .n - 1) (λ i h. carries-is i (omega arith)) in
+      let q = same (λ i. carriesIn xs o i * getD costs i 0) (λ i. carries r o i * r .cost i) (r .n - 1) (λ i h t. carries-is i (omega arith) t * cost i (omega arith) t) in
       λ t. record { moves = items-are t; tight = p .top t; slowest = record { 0 = q .high t } }

@@ -5,7 +5,7 @@ use lib.Dec.{ltb}
 use lib.ListN.{length, drop}
 use Rattle.ring.specs.Numbers.{pick}
 use Rattle.ring.specs.Boards.{Ring, ringIn}
-use Rattle.ring.specs.Plan.{finishOf, moves, tight}
+use Rattle.ring.specs.Plan.{offset, finishOf, moves, tight}
 use Rattle.hop.specs.declared.Check.{Check}
 use Rattle.hop.specs.declared.Check.the-variants.{Ring as Read, Refused as Unread}
 use Rattle.hop.specs.declared.Job.{Job}
@@ -21,7 +21,7 @@ weighedOf finish moves tight room =
 
 -- the same for an accepted ring
 abbrev pub answerFor : Ring → ℕ → Planned
-answerFor r room = weighedOf (finishOf r) (moves r) (tight r) room
+answerFor r room = weighedOf (finishOf r (offset r)) (moves r (offset r)) (tight r (offset r)) room
 
 -- a buffer after such an answer: the plan's bytes and then what was there, or after a refusal all that was there
 abbrev pub memoryFor : Ring → Planned → List ℕ → List ℕ

@@ -12,7 +12,7 @@ use Rattle.planner.specs.Runs.{In, Cover}
 
 -- the records of a link's first k sends: send x, from 0, starts at `start x`
 abbrev pub linkBytes : ℕ → ℕ → (ℕ → ℕ) → ℕ → List ℕ
-linkBytes link way start k = joined (λ x. sendBytes (record { link = link; way = way; start = start x })) k
+linkBytes link direction start k = joined (λ x. sendBytes (record { link = link; direction = direction; start = start x })) k
 
 -- where run e begins, and the run before it ends
 abbrev pub edgeOf : List ℕ → ℕ → ℕ → ℕ → ℕ
@@ -29,5 +29,5 @@ module _ (from first step : List ℕ) (m count : ℕ) where
 
   -- the records of the first k runs
   abbrev pub runsBytes : ℕ → ℕ → ℕ → List ℕ
-  runsBytes link way k =
-      joined (λ e. linkBytes link way (λ x. each first e + x * each step e) (edgeOf from m count (e + 1) - edgeOf from m count e)) k
+  runsBytes link direction k =
+      joined (λ e. linkBytes link direction (λ x. each first e + x * each step e) (edgeOf from m count (e + 1) - edgeOf from m count e)) k

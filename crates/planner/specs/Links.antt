@@ -14,8 +14,8 @@ use Rattle.planner.specs.Outline.{between, carriesIn}
 use Rattle.planner.specs.Runs.{oneWay, startBack}
 
 -- back where the level is below the offset
-abbrev pub wayBy : ℕ → ℕ → ℕ
-wayBy level offset = pick (ltb 0 (offset - level)) 1 0
+abbrev pub directionBy : ℕ → ℕ → ℕ
+directionBy level offset = pick (ltb 0 (offset - level)) 1 0
 
 -- a two-way link's start of send x, from 0
 abbrev pub startTwo : ℕ → ℕ → ℕ → ℕ → ℕ → ℕ
@@ -29,7 +29,7 @@ startBy kind n loads costs level offset rounds i x =
 -- the records of link i
 abbrev pub pieceBy : ℕ → ℕ → List ℕ → List ℕ → ℕ → ℕ → ℕ → ℕ → List ℕ
 pieceBy kind n loads costs level offset rounds i =
-    linkBytes i (wayBy level offset) (startBy kind n loads costs level offset rounds i) (between level offset)
+    linkBytes i (directionBy level offset) (startBy kind n loads costs level offset rounds i) (between level offset)
 
 -- what is known of the numbers of link i: no start passes 32 bits, and no one-way link sends back
 pub record Timely (kind n : ℕ) (loads costs : List ℕ) (level offset rounds i : ℕ) : Type 0 where

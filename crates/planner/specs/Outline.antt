@@ -61,7 +61,7 @@ abbrev pub crossings : ℕ → List ℕ → ℕ → ℕ → Traffic
 crossings n levels offset k =
     let ahead : ℕ → ℕ = λ i. each levels i - offset in
     let behind : ℕ → ℕ = λ i. offset - each levels i in
-    let before : ℕ → ℕ = prev (boardsIn n [] []) in
+    let before : ℕ → ℕ = prev n in
     record {
       sends = forBoards (λ i. ahead i + behind (before i)) k;
       receives = forBoards (λ i. ahead (before i) + behind i) k;
@@ -73,7 +73,7 @@ outlineOf r =
     record {
       offset = offset r;
       rounds = rounds r;
-      moves = moves r;
-      tight = tight r;
-      finish = record { 0 = finishOf r };
+      moves = moves r (offset r);
+      tight = tight r (offset r);
+      finish = record { 0 = finishOf r (offset r) };
     }

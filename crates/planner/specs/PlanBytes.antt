@@ -5,12 +5,12 @@ use lib.ListN.{getD}
 use Rattle.ring.specs.Lists.{upTo}
 use Rattle.ring.specs.Boards.{Ring}
 use Rattle.ring.specs.Schedule.{Send}
-use Rattle.ring.specs.Plan.{plan, finishOf, moves}
+use Rattle.ring.specs.Plan.{offset, plan, finishOf, moves}
 use Rattle.ring.specs.Bytes.{wordAt, wordBytes}
 
 -- a record: link, direction, start
 unfoldable pub sendBytes : Send → List ℕ
-sendBytes s = s .link ∷ s .way ∷ wordBytes (s .start)
+sendBytes s = s .link ∷ s .direction ∷ wordBytes (s .start)
 
 -- the records of a list of sends, one after another
 unfoldable pub recordsOf : List Send → List ℕ
@@ -28,11 +28,11 @@ recordPlace k = 15 + 6 * k
 module _ (r : Ring) where
   -- the plan's bytes
   abbrev pub planBytes : List ℕ
-  planBytes = headBytes (r .kind) (r .n) (finishOf r) (moves r) ++ recordsOf (plan r)
+  planBytes = headBytes (r .kind) (r .n) (finishOf r (offset r)) (moves r (offset r)) ++ recordsOf (plan r (offset r))
 
   -- how many they are: up to the place after the last record
   abbrev pub planLength : ℕ
-  planLength = recordPlace (moves r)
+  planLength = recordPlace (moves r (offset r))
 
 -- the finish that a plan's bytes say
 abbrev pub finishIn : List ℕ → ℕ
@@ -44,7 +44,7 @@ movesIn s = wordAt s 11
 
 -- the send that the record at a place says
 abbrev pub recordAt : List ℕ → ℕ → Send
-recordAt s at = record { link = getD s at 0; way = getD s (at + 1) 0; start = wordAt s (at + 2) }
+recordAt s at = record { link = getD s at 0; direction = getD s (at + 1) 0; start = wordAt s (at + 2) }
 
 -- the sends that the first k records say
 abbrev pub recordsIn : List ℕ → ℕ → List Send

@@ -6,7 +6,7 @@ use lib.ListN.{replicate}
 use Rattle.ring.specs.Lists.{count, fill}
 use Rattle.ring.specs.Boards.{Ring}
 use Rattle.ring.specs.Schedule.{Send, sender, receiver}
-use Rattle.ring.specs.Plan.{plan}
+use Rattle.ring.specs.Plan.{offset, plan}
 use Rattle.hop.specs.declared.Check.{Check}
 use Rattle.hop.specs.declared.Check.the-variants.{Ring as Read, Refused as Unread}
 use Rattle.hop.specs.declared.Job.{Job}
@@ -19,7 +19,7 @@ forBoards g n = fill g n (replicate 128 0)
 
 -- how many sends of the plan have board i as `who` of them
 abbrev pub sendsBy : Ring → (Send → ℕ) → ℕ → ℕ
-sendsBy r who i = count (λ s. eqb (who s) i) (plan r)
+sendsBy r who i = count (λ s. eqb (who s) i) (plan r (offset r))
 
 -- the sends and the receipts of a ring's boards
 abbrev pub trafficIn : Ring → Traffic

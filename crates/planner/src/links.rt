@@ -8,7 +8,7 @@ ghost use Rattle.ring.specs.Boards.{Accepted};
 ghost use Rattle.planner.specs.EvenRuns.{linkBytes};
 ghost use Rattle.planner.specs.Runs.{oneWay, startBack};
 ghost use Rattle.planner.specs.Outline.{between, carriesIn};
-ghost use Rattle.planner.specs.Links.{wayBy, startTwo, pieceBy, Timely, Linked, linksAfter};
+ghost use Rattle.planner.specs.Links.{directionBy, startTwo, pieceBy, Timely, Linked, linksAfter};
 use crate::records::put_run;
 use crate::records::put_runs;
 use crate::runs::runs;
@@ -20,7 +20,7 @@ use ring::link_time;
 fn put_two_way(part: &mut [u8], link: u8, level: u32, offset: u32, rounds: u32, cost: u16)
     requires { ⌜ 6 * between level offset ≤ length (now part) ⌝ }
     requires { ⌜ (offset - level ≤ rounds) × (rounds * cost < 4294967296) ⌝ }
-    ensures { λ _. ⌜ now (part .exit) ≡ linkBytes link (wayBy level offset) (startTwo level offset rounds cost) (between level offset) ++ drop (6 * between level offset) (now (part .entry)) ⌝ }
+    ensures { λ _. ⌜ now (part .exit) ≡ linkBytes link (directionBy level offset) (startTwo level offset rounds cost) (between level offset) ++ drop (6 * between level offset) (now (part .entry)) ⌝ }
 {
     if level < offset {
         let items = offset - level;

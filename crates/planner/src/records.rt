@@ -29,12 +29,12 @@ pub(crate) fn put_head(buf: &mut [u8], kind: u8, n: u8, finish: u32, moves: u32)
 }
 
 // One record at the front of a part. It holds the start's low 32 bits, which are all of it where the finish is within 32 bits.
-fn put_record(part: &mut [u8], link: u8, way: u8, start: u64)
+fn put_record(part: &mut [u8], link: u8, direction: u8, start: u64)
     requires { ⌜ 6 ≤ length (now part) ⌝ }
-    ensures { λ _. ⌜ now (part .exit) ≡ sendBytes (record { link = link; way = way; start = start }) ++ drop 6 (now (part .entry)) ⌝ }
+    ensures { λ _. ⌜ now (part .exit) ≡ sendBytes (record { link = link; direction = direction; start = start }) ++ drop 6 (now (part .entry)) ⌝ }
 {
     part[0] = link;
-    part[1] = way;
+    part[1] = direction;
     part[2] = (start / 65536 / 256 % 256) as u8;
     part[3] = (start / 65536 % 256) as u8;
     part[4] = (start / 256 % 256) as u8;
@@ -43,17 +43,17 @@ fn put_record(part: &mut [u8], link: u8, way: u8, start: u64)
 
 // The records of `count` sends of a link, the first at tick `first` and each other `step` ticks after the one before, at the front of
 // a part.
-pub(crate) fn put_run(part: &mut [u8], link: u8, way: u8, count: u32, first: u64, step: u16)
+pub(crate) fn put_run(part: &mut [u8], link: u8, direction: u8, count: u32, first: u64, step: u16)
     requires { ⌜ 6 * count ≤ length (now part) ⌝ }
     requires { ⌜ (0 < count → first < 4294967296) ⌝ }
-    ensures { λ _. ⌜ now (part .exit) ≡ linkBytes link way (λ x. first + x * step) count ++ drop (6 * count) (now (part .entry)) ⌝ }
+    ensures { λ _. ⌜ now (part .exit) ≡ linkBytes link direction (λ x. first + x * step) count ++ drop (6 * count) (now (part .entry)) ⌝ }
 {
     let n = count as usize;
     let wide = step as u64;
     let mut start = first;
     for x in 0..n {
         let at = 6 * x;
-        put_record(&mut part[at..], link, way, start);
+        put_record(&mut part[at..], link, direction, start);
         start += wide;
     }
 }
@@ -73,7 +73,7 @@ fn edge(from: &[u32], m: usize, count: u32, e: usize) -> u32
 pub(crate) fn put_runs(
     part: &mut [u8],
     link: u8,
-    way: u8,
+    direction: u8,
     count: u32,
     from: &[u32],
     first: &[u64],
@@ -82,13 +82,20 @@ pub(crate) fn put_runs(
 )
     requires { ⌜ 6 * count ≤ length (now part) ⌝ }
     requires { ⌜ Even (now from) (now first) (now step) m count ⌝ }
-    ensures { λ _. ⌜ now (part .exit) ≡ runsBytes (now (from .entry)) (now (first .entry)) (now (step .entry)) m count link way m ++ drop (6 * count) (now (part .entry)) ⌝ }
+    ensures { λ _. ⌜ now (part .exit) ≡ runsBytes (now (from .entry)) (now (first .entry)) (now (step .entry)) m count link direction m ++ drop (6 * count) (now (part .entry)) ⌝ }
 {
     let mut begin: u32 = 0;
     for e in 0..m {
         let end = edge(from, m, count, e + 1);
         let at = 6 * (begin as usize);
-        put_run(&mut part[at..], link, way, end - begin, first[e], step[e]);
+        put_run(
+            &mut part[at..],
+            link,
+            direction,
+            end - begin,
+            first[e],
+            step[e],
+        );
         begin = end;
     }
 }

@@ -1,7 +1,6 @@
 // The starts of one link's sends in kinds 1 and 2, as runs of even pace, found from the links back round the ring: no table of ends, and a
 // time that goes by the links and not by the sends, since a run that a line removes is never looked at again.
 ghost use mathlib.Core.Path.{_≡_};
-ghost use mathlib.Core.List.{[]};
 ghost use Prim.Native.Nat.{ℕ, _+_, _*_, _-_, _<_, _≤_};
 ghost use lib.ListN.{length, set};
 ghost use Rattle.ring.specs.Boards.{Accepted, prev};
@@ -14,7 +13,7 @@ use ring::link_time;
 // The link before link l.
 pub(crate) fn link_before(l: usize, n: usize) -> usize
     requires { ⌜ l < n ⌝ }
-    ensures { λ r. ⌜ r ≡ prev (oneWay n [] []) l ⌝ }
+    ensures { λ r. ⌜ r ≡ prev n l ⌝ }
 {
     if l == 0 { n - 1 } else { l - 1 }
 }

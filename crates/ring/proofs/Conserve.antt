@@ -11,13 +11,13 @@ use borrow.Author.Tests.{eqb-true, eq-eqb, ne-eqb, le-ltb, lt-ltb, le-leb, lt-le
 use Rattle.ring.specs.Numbers.{pick, both, one-if, sum}
 use Rattle.ring.specs.Lists.{Each, count}
 use Rattle.ring.specs.Boards.{Ring, Accepted, next}
-use Rattle.ring.specs.Schedule.{Send, sender, receiver, ends, sentBefore, receivedBy, loadAt, inFlight, finish, Allowed, Valid}
+use Rattle.ring.specs.Schedule.{Send, sender, receiver, lasts, ends, sentBefore, receivedBy, loadAt, inFlight, finish, Allowed, Valid}
 use Rattle.ring.proofs.Tests.{le-lt, both-true}
 use Rattle.ring.proofs.Sums.{sum-eq, sum-add, sum-at}
 use Rattle.ring.proofs.Totals.{each-all, each-map, each-map₂, two-map, total-eq, total-le, total-zero, total-split, sum-total, count-with, count-some}
 use Rattle.ring.proofs.Packing.{packed}
 use Rattle.ring.proofs.Neighbours.{next-below}
-use Rattle.ring.proofs.Finish.{finish-each}
+use Rattle.ring.proofs.Finish.{finish-each, lasting}
 
 -- of the numbers below k, m is one
 sum-one : (m : ℕ) (b : Bool) (k : ℕ) → m < k → sum (λ i. one-if (both (eqb m i) b)) k ≡ one-if b
@@ -26,9 +26,9 @@ sum-one m b k h =
 
 module _ (r : Ring) where
   -- each send is of one board, and to one board
-  of-board : (s : Send) → Allowed r s → (b : Bool) → (pick b (s .link) (next r (s .link)) < r .n) × (pick b (next r (s .link)) (s .link) < r .n)
-  of-board s a true = (a .0, next-below r (s .link) (a .0))
-  of-board s a false = (next-below r (s .link) (a .0), a .0)
+  of-board : (s : Send) → Allowed r s → (b : Bool) → (pick b (s .link) (next (r .n) (s .link)) < r .n) × (pick b (next (r .n) (s .link)) (s .link) < r .n)
+  of-board s a true = (a .0, next-below (r .n) (s .link) (a .0))
+  of-board s a false = (next-below (r .n) (s .link) (a .0), a .0)
 
   module _ (ok : Accepted r) (σ : List Send) (v : Valid r σ) where
     abbrev startsAt : ℕ → ℕ → Send → Bool
@@ -44,10 +44,8 @@ module _ (r : Ring) where
         (two-map (λ s u a b h ps pu.
         let x = starts-is i t s ps in
         let y = starts-is i t u pu in
-        let cs = ok .costs (s .link) (a .0) in
-        let cu = ok .costs (u .link) (b .0) in
         absurd (elim (h (x .0 ∙ sym (y .0))) [ inl l ↦ omega arith | inr l ↦ omega arith ]))
-        σ (v .allowed) (v .sends))
+        σ (lasting r σ v ok) (v .sends))
         (each-all (λ s e. omega arith) σ)
 
     sent-none : (i : ℕ) → sentBefore r σ i 0 ≡ 0
@@ -105,7 +103,7 @@ module _ (r : Ring) where
 
     in-flight : (t : ℕ) → count (λ s. ltb (s .start) t) σ ≡ count (λ s. leb (ends r s) t) σ + inFlight r σ t
     unfolding inFlight
-    in-flight t = total-split _ _ _ σ (each-map (λ s a. at (s .start) (r .cost (s .link)) (ok .costs (s .link) (a .0) .0)) σ (v .allowed))
+    in-flight t = total-split _ _ _ σ (each-map (λ s a. at (s .start) (lasts r s) a) σ (lasting r σ v ok))
       where
         at : (m c : ℕ) → 1 ≤ c → one-if (ltb m t) ≡ one-if (leb (m + c) t) + one-if (both (ltb m t) (ltb t (m + c)))
         at m c h =
@@ -123,8 +121,8 @@ module _ (r : Ring) where
         omega (
           arith,
           in-flight t,
-          at-one-board (sender r) (each-map (λ s a. of-board s a (eqb (s .way) 0) .0) σ (v .allowed)) (λ s. ltb (s .start) t),
-          at-one-board (receiver r) (each-map (λ s a. of-board s a (eqb (s .way) 0) .1) σ (v .allowed)) (λ s. leb (ends r s) t),
+          at-one-board (sender r) (each-map (λ s a. of-board s a (eqb (s .direction) 0) .0) σ (v .allowed)) (λ s. ltb (s .start) t),
+          at-one-board (receiver r) (each-map (λ s a. of-board s a (eqb (s .direction) 0) .1) σ (v .allowed)) (λ s. leb (ends r s) t),
           sum-add (λ i. loadAt r σ i t) (λ i. sentBefore r σ i t) (r .n),
           sum-add (r .load) (λ i. receivedBy r σ i t) (r .n),
           sum-eq (λ i. loadAt r σ i t + sentBefore r σ i t) (λ i. r .load i + receivedBy r σ i t) (r .n) (λ i l. load-exact i t),
@@ -135,8 +133,8 @@ module _ (r : Ring) where
       all-sent : (i : ℕ) → sentBefore r σ i t ≡ count (λ s. eqb (sender r s) i) σ
       all-sent i =
           count-with (λ s. eqb (sender r s) i) (λ s. ltb (s .start) t) σ
-          (each-map₂ (λ s a (l : ends r s ≤ t). lt-ltb (s .start) t (omega (arith, ok .costs (s .link) (a .0)))) σ
-          (v .allowed) (finish-each r t σ late))
+          (each-map₂ (λ s a (l : ends r s ≤ t). lt-ltb (s .start) t (omega arith)) σ
+          (lasting r σ v ok) (finish-each r t σ late))
 
       all-received : (i : ℕ) → receivedBy r σ i t ≡ count (λ s. eqb (receiver r s) i) σ
       all-received i =

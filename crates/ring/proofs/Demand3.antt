@@ -2,16 +2,18 @@
 -- document 01 that it is.
 use mathlib.Core.Path.{_≡_}
 use mathlib.Core.List.{List}
-use Prim.Native.Nat.{ℕ, suc, _+_, _≤_, _<_}
+use Prim.Native.Nat.{ℕ, suc, _+_, _/_, _≤_, _<_}
 use native.Mathlib.Omega.{arith}
-use lib.IntN.{natAbs}
+use lib.IntN.{pos, natAbs, _+ℤ_, _-ℤ_}
 use lib.ListN.{length}
 use Rattle.ring.specs.Numbers.{sum}
 use Rattle.ring.specs.Lists.{EachTwo}
-use Rattle.ring.specs.Boards.{Ring, Accepted}
+use Rattle.ring.specs.Boards.{Ring, Accepted, TwoWay}
 use Rattle.ring.specs.Schedule.{Send, Valid, sentBefore, receivedBy, loadAt, inFlight, finish}
 use Rattle.ring.specs.Bytes.{InOrder}
-use Rattle.ring.specs.Plan.{Waits, f, carries, startOf, plan, finishOf, moves}
+use Rattle.ring.specs.Plan.{S, LeastAt, GreatestAt, R, offset, Waits, f, carries, startOf, plan, finishOf, moves}
+use Rattle.ring.proofs.Level.{One, some-least, some-greatest}
+use Rattle.ring.proofs.Offset.{one-way, fits, f-one-way, idle-one-way, f-two-way, R-is}
 use Rattle.ring.proofs.Best.{valid, ends-at, least-finish}
 use Rattle.ring.proofs.Waiting.{waits, one-rule}
 use Rattle.ring.proofs.Moves.{as-many, sizes, ordered}
@@ -21,38 +23,62 @@ use Rattle.ring.proofs.Bounds.{finish-most}
 module _ (r : Ring) (ok : Accepted r) where
   -- "A valid schedule": "each with a link, a direction the kind allows", "the sends of one board don't overlap, nor do the receipts of
   -- one board", "when a board starts a send, its load at that tick is at least 1", "after all sends each board has load − surplus"
-  pub plan-is-valid : Valid r (plan r)
-  plan-is-valid = valid r ok
+  pub plan-is-valid : Valid r (plan r (offset r))
+  plan-is-valid = valid r (offset r) ok (fits r ok)
 
   -- "The finish is the greatest f(i) × cost(i)." and of kind 3 "The finish is T × c."
-  pub finish-is : finish r (plan r) ≡ finishOf r
-  finish-is = ends-at r ok
+  pub finish-is : finish r (plan r (offset r)) ≡ finishOf r (offset r)
+  finish-is = ends-at r (offset r) ok (fits r ok)
 
   -- "Source document 001 (RR2004-28) decides the model and the least finish time, as restated here."
-  pub none-sooner : (σ : List Send) → Valid r σ → finish r (plan r) ≤ finish r σ
-  none-sooner = least-finish r ok
+  pub none-sooner : (σ : List Send) → Valid r σ → finish r (plan r (offset r)) ≤ finish r σ
+  none-sooner = least-finish r (offset r) ok (fits r ok)
 
-  module _ (one : r .kind ≡ 3 → ⊥) where
+  -- "Let S(i) be the sum of surpluses of boards 0 to i, low the least S, high the greatest, R = high − low.": low is S(k), high is S(m)
+  pub some-low : (k : ℕ) × LeastAt r k
+  some-low = some-least r ok
+
+  pub some-high : (m : ℕ) × GreatestAt r m
+  some-high = some-greatest r ok
+
+  pub R-is-the-difference : (k m : ℕ) → LeastAt r k → GreatestAt r m → pos (R r) ≡ S r m -ℤ S r k
+  R-is-the-difference k m low high = R-is r ok k low m high
+
+  module _ (one : TwoWay (r .kind) → ⊥) where
+    -- "Link i carries f(i) = S(i) − low items, forward.", "The link after which S is least carries nothing"
+    pub carries-S : (k : ℕ) → LeastAt r k → (i : ℕ) → i < r .n → f r (offset r) i ≡ S r i -ℤ S r k
+    carries-S k low = f-one-way r ok k low one
+
+    pub carries-nothing : (k : ℕ) → LeastAt r k → carries r (offset r) k ≡ 0
+    carries-nothing k low = idle-one-way r ok k low one
+
+    fit : One r (offset r)
+    fit = record { kind = one; from = one-way r one }
+
     -- "Send j on link i starts as soon as it can: the later of the end of send j − 1 on link i (0 if j = 1) and, if j is more than the
     -- load of board i, the end of send (j − load) on link i − 1." Here of send j + 1
-    pub starts-wait : Waits r (startOf r)
-    starts-wait = waits r ok one
+    pub starts-wait : Waits r (offset r) (startOf r (offset r))
+    starts-wait = waits r (offset r) ok fit
 
-    -- "The link after which S is least carries nothing, so the rule has a first link to stand on.": no other starts keep the rule
-    pub only-starts : (start : ℕ → ℕ → ℕ) → Waits r start → (i : ℕ) → i < r .n → (j : ℕ) → j < carries r i
-        → start i (suc j) ≡ startOf r i (suc j)
-    only-starts start rule = one-rule r ok one start (startOf r) rule (waits r ok one)
+    -- "so the rule has a first link to stand on.": no other starts keep the rule
+    pub only-starts : (start : ℕ → ℕ → ℕ) → Waits r (offset r) start → (i : ℕ) → i < r .n → (j : ℕ) → j < carries r (offset r) i
+        → start i (suc j) ≡ startOf r (offset r) i (suc j)
+    only-starts start rule = one-rule r (offset r) ok fit start (startOf r (offset r)) rule starts-wait
+
+  -- of kind 3, "f(i) = S(i) − low − floor(R / 2), signed."
+  pub signed-S : r .kind ≡ 3 → (k : ℕ) → LeastAt r k → (i : ℕ) → i < r .n → f r (offset r) i ≡ S r i -ℤ (S r k +ℤ pos (R r / 2))
+  signed-S two k low = f-two-way r ok k low two
 
   -- "The moves are the sum of |f(i)|.", and the plan has so many sends
-  pub moves-are : moves r ≡ sum (λ i. natAbs (f r i)) (r .n)
-  moves-are = sizes r
+  pub moves-are : moves r (offset r) ≡ sum (λ i. natAbs (f r (offset r) i)) (r .n)
+  moves-are = sizes r (offset r)
 
-  pub moves-is : length (plan r) ≡ moves r
-  moves-is = as-many r
+  pub moves-is : length (plan r (offset r)) ≡ moves r (offset r)
+  moves-is = as-many r (offset r)
 
   -- "Records go by link upward, then by start upward, then by direction, forward first."
-  pub in-order : EachTwo InOrder (plan r)
-  in-order = ordered r ok
+  pub in-order : EachTwo InOrder (plan r (offset r))
+  in-order = ordered r (offset r) ok (fits r ok)
 
   module _ (σ : List Send) (v : Valid r σ) where
     -- "The load at tick t is the first load, plus receipts that ended at or before t, minus sends that started strictly before t.": the
@@ -69,5 +95,5 @@ module _ (r : Ring) (ok : Accepted r) where
     ends-with = load-at-end r ok σ v
 
   -- "finish above 4,294,967,295": there is none, the most is 128 × 4,095 × 8,000
-  pub finish-fits : (finishOf r ≤ 4193280000) × (finishOf r < 4294967296)
-  finish-fits = omega (arith, finish-most r ok)
+  pub finish-fits : (finishOf r (offset r) ≤ 4193280000) × (finishOf r (offset r) < 4294967296)
+  finish-fits = omega (arith, finish-most r ok (offset r) (fits r ok))

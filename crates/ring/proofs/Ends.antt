@@ -11,12 +11,12 @@ module _ (r : Ring) (ok : Accepted r) where
   unfolding endBack
   steady-back zero i h = steady-none
   steady-back (suc d) i h =
-      steady-ends (endBack r d (prev r i)) (steady-back d (prev r i) (prev-below r i h)) (r .cost i) (r .load i) (ok .loads i h .0)
+      steady-ends (endBack r d (prev (r .n) i)) (steady-back d (prev (r .n) i) (prev-below (r .n) i h)) (r .cost i) (r .load i) (ok .loads i h .0)
 
-  pub back-closed : (d i j : ℕ) → i < r .n → endBack r (suc d) i (suc j) ≡ max (r .cost i * suc j) (r .cost i + endBack r d (prev r i) (suc j - r .load i))
+  pub back-closed : (d i j : ℕ) → i < r .n → endBack r (suc d) i (suc j) ≡ max (r .cost i * suc j) (r .cost i + endBack r d (prev (r .n) i) (suc j - r .load i))
   unfolding endBack
   back-closed d i j h =
-      closed (endBack r d (prev r i)) (steady-back d (prev r i) (prev-below r i h)) (r .cost i) (r .load i) (ok .loads i h .0) j
+      closed (endBack r d (prev (r .n) i)) (steady-back d (prev (r .n) i) (prev-below (r .n) i h)) (r .cost i) (r .load i) (ok .loads i h .0) j
 
   pub back-zero : (d i : ℕ) → endBack r d i 0 ≡ 0
   unfolding endBack endsAfter

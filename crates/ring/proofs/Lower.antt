@@ -9,40 +9,23 @@ use lib.Dec.{eqb}
 use borrow.Author.Tests.{eqb-true, eq-eqb, ne-eqb}
 use Rattle.ring.specs.Numbers.{one-if, greatest}
 use Rattle.ring.specs.Lists.{EachTwo, count}
-use Rattle.ring.specs.Boards.{Ring, Accepted}
+use Rattle.ring.specs.Boards.{Ring, Accepted, TwoWay}
 use Rattle.ring.specs.Schedule.{Send, sender, receiver, Apart, Valid, finish}
 use Rattle.ring.specs.Plan.{R, ahead, behind, carries, surplusSize, rounds, finishOf}
 use Rattle.ring.proofs.Tests.{le-lt}
 use Rattle.ring.proofs.Sums.{max-has, greatest-has}
 use Rattle.ring.proofs.Totals.{each-map, total-zero}
-use Rattle.ring.proofs.Level.{kind-is, low-at, high-at, none-behind, idle}
-use Rattle.ring.proofs.Flow.{onWay, fore, hind, net-flow}
-use Rattle.ring.proofs.Finish.{room, way-room}
+use Rattle.ring.proofs.Level.{One, Fits, low-at, high-at, none-behind, idle}
+use Rattle.ring.proofs.Flow.{along, fore, hind, net-flow}
+use Rattle.ring.proofs.Finish.{board-room, along-room}
 
 module _ (r : Ring) (ok : Accepted r) (σ : List Send) (v : Valid r σ) where
-  module _ (one : r .kind ≡ 3 → ⊥) where
-    none-back : (l : ℕ) → hind σ l ≡ 0
-    none-back l = total-zero (λ s. one-if (onWay 1 l s)) σ (each-map (λ s a. at s (a .1)) σ (v .allowed))
-      where
-        at : (s : Send) → (s .way ≡ 0) ⊎ ((s .way ≡ 1) × (r .kind ≡ 3)) → one-if (onWay 1 l s) ≡ 0
-        at s (inl w) = rw w
-        at s (inr w) = absurd (one (w .1))
-
-    pub none-fewer : (i : ℕ) → i < r .n → carries r i ≤ fore σ i
-    unfolding ahead behind
-    none-fewer i h =
-        let (b, p, q) = idle r ok one in
-        omega (arith, none-behind r ok one i h, none-behind r ok one b p, net-flow r σ v ok i h, net-flow r σ v ok b p, none-back i, none-back b)
-
-    by-links : finishOf r ≤ greatest (λ i. carries r i * r .cost i) (r .n - 1)
-    unfolding finishOf
-    by-links = rw (ne-eqb (r .kind) 3 one) (omega arith)
-
-    lower-one-way : finishOf r ≤ finish r σ
-    lower-one-way =
-        le-trans by-links
-        (greatest-has (λ x. x ≤ finish r σ) (λ i. carries r i * r .cost i) (r .n - 1)
-        (λ i l. le-trans (mul-le-mul-right (r .cost i) (none-fewer i (omega (arith, ok .boards)))) (way-room r σ v 0 i)))
+  none-back : (TwoWay (r .kind) → ⊥) → (l : ℕ) → hind σ l ≡ 0
+  none-back one l = total-zero (λ s. one-if (along 1 l s)) σ (each-map (λ s a. at s (a .1)) σ (v .allowed))
+    where
+      at : (s : Send) → (s .direction ≡ 0) ⊎ ((s .direction ≡ 1) × TwoWay (r .kind)) → one-if (along 1 l s) ≡ 0
+      at s (inl w) = rw w
+      at s (inr w) = absurd (one (w .1))
 
   module _ (two : r .kind ≡ 3) where
     abbrev Takes : ℕ → Type 0
@@ -54,7 +37,7 @@ module _ (r : Ring) (ok : Accepted r) (σ : List Send) (v : Valid r σ) where
     -- what one board sends, or receives
     one-board : (who : Send → ℕ) → EachTwo (λ s t. who s ≡ who t → Apart r s t) σ → (i : ℕ) → Takes (count (λ s. eqb (who s) i) σ)
     one-board who apart i =
-        room r σ v who apart (λ s. eqb (who s) i) (r .cost 0) i (λ s a e. (eqb-true (who s) i e, omega (arith, ok .alike (inr two) (s .link) (a .0))))
+        board-room r σ v who apart (λ s. eqb (who s) i) (r .cost 0) i (λ s a e. (eqb-true (who s) i e, omega (arith, ok .alike (inr two) (s .link) (a .0))))
 
     of-surplus : (i : ℕ) → i < r .n → Takes (surplusSize r i)
     of-surplus i h =
@@ -62,8 +45,8 @@ module _ (r : Ring) (ok : Accepted r) (σ : List Send) (v : Valid r σ) where
         (fewer _ _ (omega (arith, v .left i h)) (one-board (sender r) (v .sends) i))
         (fewer _ _ (omega (arith, v .left i h)) (one-board (receiver r) (v .receipts) i))
 
-    one-link : (w l : ℕ) → l < r .n → Takes (count (onWay w l) σ)
-    one-link w l h = rw (ok .alike (inr two) l h) at (way-room r σ v w l)
+    pub one-link : (w l : ℕ) → l < r .n → Takes (count (along w l) σ)
+    one-link w l h = rw (ok .alike (inr two) l h) at (along-room r σ v w l)
 
     -- between the highest and the lowest level the net flows differ by all of R, so one of the two links carries half of it
     of-half : Takes ((R r + 1) / 2)
@@ -75,18 +58,41 @@ module _ (r : Ring) (ok : Accepted r) (σ : List Send) (v : Valid r σ) where
           | inr l ↦ fewer _ _ (omega (arith, net-flow r σ v ok a p, net-flow r σ v ok b s)) (one-link 1 b s)
         ]
 
-    by-rounds : finishOf r ≤ rounds r * r .cost 0
-    unfolding finishOf
-    by-rounds = rw (eq-eqb (r .kind) 3 two) (omega arith)
-
     rounds-few : rounds r ≤ max (greatest (surplusSize r) (r .n - 1)) ((R r + 1) / 2)
     unfolding rounds
     rounds-few = omega arith
 
-    lower-two-way : finishOf r ≤ finish r σ
-    lower-two-way =
+    takes-rounds : Takes (rounds r)
+    takes-rounds =
         let surpluses = greatest-has Takes (surplusSize r) (r .n - 1) (λ i l. of-surplus i (omega (arith, ok .boards))) in
-        le-trans by-rounds (fewer _ _ rounds-few (max-has Takes _ _ surpluses of-half))
+        fewer _ _ rounds-few (max-has Takes _ _ surpluses of-half)
 
-  pub lower : finishOf r ≤ finish r σ
-  lower = elim (kind-is (r .kind)) [ inl two ↦ lower-two-way two | inr one ↦ lower-one-way one ]
+module _ (r : Ring) (o : ℕ) (ok : Accepted r) (σ : List Send) (v : Valid r σ) where
+  module _ (one : One r o) where
+    pub none-fewer : (i : ℕ) → i < r .n → carries r o i ≤ fore σ i
+    unfolding ahead behind
+    none-fewer i h =
+        let (b, p, q) = idle r o ok one in
+        let none = none-back r ok σ v (one .kind) in
+        omega (arith, none-behind r o ok one i h, none-behind r o ok one b p, net-flow r σ v ok i h, net-flow r σ v ok b p, none i, none b)
+
+    by-links : finishOf r o ≤ greatest (λ i. carries r o i * r .cost i) (r .n - 1)
+    unfolding finishOf
+    by-links = rw (ne-eqb (r .kind) 3 (one .kind)) (omega arith)
+
+    lower-one-way : finishOf r o ≤ finish r σ
+    lower-one-way =
+        le-trans by-links
+        (greatest-has (λ x. x ≤ finish r σ) (λ i. carries r o i * r .cost i) (r .n - 1)
+        (λ i l. le-trans (mul-le-mul-right (r .cost i) (none-fewer i (omega (arith, ok .boards)))) (along-room r σ v 0 i)))
+
+  module _ (two : r .kind ≡ 3) where
+    by-rounds : finishOf r o ≤ rounds r * r .cost 0
+    unfolding finishOf
+    by-rounds = rw (eq-eqb (r .kind) 3 two) (omega arith)
+
+    lower-two-way : finishOf r o ≤ finish r σ
+    lower-two-way = le-trans by-rounds (takes-rounds r ok σ v two)
+
+  pub lower : Fits r o → finishOf r o ≤ finish r σ
+  lower fits = elim fits [ inl two ↦ lower-two-way (two .kind) | inr one ↦ lower-one-way one ]

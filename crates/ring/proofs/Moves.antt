@@ -1,7 +1,7 @@
 -- The sends of the plan: so many as there are moves, and in plan order; and the tight link.
 use mathlib.Core.Path.{_≡_, refl, _∙_}
 use mathlib.Core.Logic.{inl, inr}
-use Prim.Native.Nat.{_-_}
+use Prim.Native.Nat.{ℕ, _-_}
 use native.Mathlib.Omega.{arith}
 use lib.IntN.{natAbs}
 use lib.ListN.{length}
@@ -14,34 +14,34 @@ use Rattle.ring.proofs.Tests.{le-lt}
 use Rattle.ring.proofs.Sums.{sum-eq, sum-ones, sum-term, Peak, peak-is}
 use Rattle.ring.proofs.Totals.{total-length}
 use Rattle.ring.proofs.Signed.{size}
-use Rattle.ring.proofs.Level.{one-sign}
+use Rattle.ring.proofs.Level.{Fits, one-sign}
 use Rattle.ring.proofs.Planned.{two-plan, total-plan}
 use Rattle.ring.proofs.Best.{timed}
 
-module _ (r : Ring) where
-  pub as-many : length (plan r) ≡ moves r
+module _ (r : Ring) (o : ℕ) where
+  pub as-many : length (plan r o) ≡ moves r o
   unfolding moves
-  as-many = total-length (plan r) ∙ (total-plan r (λ s. 1) ∙ sum-eq _ _ (r .n) (λ i h. sum-ones (carries r i)))
+  as-many = total-length (plan r o) ∙ (total-plan r o (λ s. 1) ∙ sum-eq _ _ (r .n) (λ i h. sum-ones (carries r o i)))
 
-  pub sizes : moves r ≡ sum (λ i. natAbs (f r i)) (r .n)
+  pub sizes : moves r o ≡ sum (λ i. natAbs (f r o i)) (r .n)
   unfolding moves
-  sizes = sum-eq _ _ (r .n) (λ i h. size (ahead r i) (behind r i) (one-sign r i))
+  sizes = sum-eq _ _ (r .n) (λ i h. size (ahead r o i) (behind r o i) (one-sign r o i))
 
-  pub ordered : Accepted r → EachTwo InOrder (plan r)
-  ordered ok =
-      two-plan r InOrder
-      (λ i j k h l m. inr (refl, inl (omega (arith, timed r ok .turns i j k h l m, ok .costs i h))))
+  pub ordered : Accepted r → Fits r o → EachTwo InOrder (plan r o)
+  ordered ok fits =
+      two-plan r o InOrder
+      (λ i j k h l m. inr (refl, inl (omega (arith, timed r o ok fits .turns i j k h l m, ok .costs i h))))
       (λ i j a b l h lj lb. inl l)
 
   -- the tight link is the lowest-numbered link carrying the most items, link 0 where there are no moves
-  pub tight-is : Peak (carries r) (r .n - 1) (tight r)
+  pub tight-is : Peak (carries r o) (r .n - 1) (tight r o)
   unfolding tight
-  tight-is = peak-is (carries r) (r .n - 1)
+  tight-is = peak-is (carries r o) (r .n - 1)
 
-  pub tight-none : Accepted r → moves r ≡ 0 → tight r ≡ 0
+  pub tight-none : Accepted r → moves r o ≡ 0 → tight r o ≡ 0
   unfolding moves
   tight-none ok e =
-      elim (le-lt (tight r) 0) [
+      elim (le-lt (tight r o) 0) [
         | inl h ↦ omega arith
-        | inr h ↦ absurd (omega (arith, tight-is .lowest 0 h, sum-term (carries r) (tight r) (r .n) (omega (arith, ok .boards, tight-is .place))))
+        | inr h ↦ absurd (omega (arith, tight-is .lowest 0 h, sum-term (carries r o) (tight r o) (r .n) (omega (arith, ok .boards, tight-is .place))))
       ]

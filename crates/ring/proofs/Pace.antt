@@ -10,29 +10,29 @@ use Rattle.ring.specs.Plan.{ahead, carries, endBack, endOf, finishOf}
 use Rattle.ring.proofs.Tests.{le-lt}
 use Rattle.ring.proofs.Sums.{le-greatest}
 use Rattle.ring.proofs.Neighbours.{prev-below}
-use Rattle.ring.proofs.Level.{ahead-step, comes}
+use Rattle.ring.proofs.Level.{One, ahead-step, comes}
 use Rattle.ring.proofs.Ends.{back-closed, back-zero}
 
 -- an end e that is no later than w sends one after another of link l, where w is at most j and link l carries w and `more` besides
-record Paced (r : Ring) (e j more : ℕ) : Type 0 where
+record Paced (r : Ring) (o e j more : ℕ) : Type 0 where
   l : ℕ
   w : ℕ
   below : l < r .n
   few : w ≤ j
   by : e ≤ r .cost l * w
-  fits : w + more ≤ ahead r l
+  fits : w + more ≤ ahead r o l
 
-module _ (r : Ring) (ok : Accepted r) (one : r .kind ≡ 3 → ⊥) where
-  own : (i j e : ℕ) → i < r .n → j ≤ ahead r i → e ≤ r .cost i * j → Paced r e j (ahead r i - j)
+module _ (r : Ring) (o : ℕ) (ok : Accepted r) (one : One r o) where
+  own : (i j e : ℕ) → i < r .n → j ≤ ahead r o i → e ≤ r .cost i * j → Paced r o e j (ahead r o i - j)
   own i j e h k b = record { l = i; w = j; below = h; few = le-refl j; by = b; fits = omega arith }
 
   -- from the link before: at least one of the items of board i stays there
-  pass : (i j e : ℕ) → i < r .n → suc j ≤ ahead r i → r .load i ≤ suc j → Paced r e (suc j - r .load i) (ahead r (prev r i) - (suc j - r .load i))
-      → Paced r (max (r .cost i * suc j) (r .cost i + e)) (suc j) (ahead r i - suc j)
+  pass : (i j e : ℕ) → i < r .n → suc j ≤ ahead r o i → r .load i ≤ suc j → Paced r o e (suc j - r .load i) (ahead r o (prev (r .n) i) - (suc j - r .load i))
+      → Paced r o (max (r .cost i * suc j) (r .cost i + e)) (suc j) (ahead r o i - suc j)
   pass i j e h k p v =
       let L : 1 ≤ r .load i = ok .loads i h .0 in
       let A : 1 ≤ r .after i = ok .afters i h .0 in
-      let S : ahead r i + r .after i ≡ ahead r (prev r i) + r .load i = ahead-step r ok one i h in
+      let S : ahead r o i + r .after i ≡ ahead r o (prev (r .n) i) + r .load i = ahead-step r o ok one i h in
       elim (le-lt (r .cost i + e) (r .cost i * suc j)) [
         | inl q ↦ own i (suc j) _ h k (omega arith)
         | inr q ↦
@@ -53,20 +53,20 @@ module _ (r : Ring) (ok : Accepted r) (one : r .kind ≡ 3 → ⊥) where
             ]
       ]
 
-  paced : (d i j : ℕ) → i < r .n → j ≤ ahead r i → Paced r (endBack r d i j) j (ahead r i - j)
+  paced : (d i j : ℕ) → i < r .n → j ≤ ahead r o i → Paced r o (endBack r d i j) j (ahead r o i - j)
   paced zero i j h k = own i j _ h k (unfold endBack in omega arith)
   paced (suc d) i zero h k = own i 0 _ h k (omega (arith, back-zero r ok (suc d) i))
   paced (suc d) i (suc j) h k =
       elim (le-lt (r .load i) (suc j)) [
-        | inl p ↦ rw (back-closed r ok d i j h) (pass i j _ h k p (paced d (prev r i) (suc j - r .load i) (prev-below r i h) (comes r ok one i (suc j) h k)))
+        | inl p ↦ rw (back-closed r ok d i j h) (pass i j _ h k p (paced d (prev (r .n) i) (suc j - r .load i) (prev-below (r .n) i h) (comes r o ok one i (suc j) h k)))
         | inr p ↦
             let e : suc j - r .load i ≡ 0 = omega arith in
-            own i (suc j) _ h k (omega (arith, back-closed r ok d i j h, ap (endBack r d (prev r i)) e, back-zero r ok d (prev r i)))
+            own i (suc j) _ h k (omega (arith, back-closed r ok d i j h, ap (endBack r d (prev (r .n) i)) e, back-zero r ok d (prev (r .n) i)))
       ]
 
-  pub in-time : (i j : ℕ) → i < r .n → j ≤ ahead r i → endOf r i j ≤ finishOf r
+  pub in-time : (i j : ℕ) → i < r .n → j ≤ ahead r o i → endOf r i j ≤ finishOf r o
   unfolding finishOf
   in-time i j h k =
       let v = paced (r .n) i j h k in
-      let a : r .cost (v .l) * v .w ≤ r .cost (v .l) * carries r (v .l) = mul-le-mul-left (r .cost (v .l)) (omega (arith, v .fits)) in
-      rw (ne-eqb (r .kind) 3 one) (omega (arith, v .by, le-greatest (λ k. carries r k * r .cost k) (r .n - 1) (v .l) (omega (arith, v .below))))
+      let a : r .cost (v .l) * v .w ≤ r .cost (v .l) * carries r o (v .l) = mul-le-mul-left (r .cost (v .l)) (omega (arith, v .fits)) in
+      rw (ne-eqb (r .kind) 3 (one .kind)) (omega (arith, v .by, le-greatest (λ k. carries r o k * r .cost k) (r .n - 1) (v .l) (omega (arith, v .below))))

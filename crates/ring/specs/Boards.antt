@@ -26,15 +26,14 @@ ringOf kind n load surplus cost =
 abbrev pub ringIn : ℕ → ℕ → List ℕ → List ℤ → List ℕ → Ring
 ringIn kind n loads surpluses costs = ringOf kind n (each loads) (eachℤ surpluses) (each costs)
 
-module _ (r : Ring) where
-  -- the board after board i, (i + 1) mod n; link i leads to it
-  abbrev pub next : ℕ → ℕ
-  next i = pick (eqb (suc i) (r .n)) 0 (suc i)
+-- of n boards, the board after board i, (i + 1) mod n; link i leads to it
+abbrev pub next : ℕ → ℕ → ℕ
+next n i = pick (eqb (suc i) n) 0 (suc i)
 
-  -- the board before board i; its link leads to board i. With n = 2 the links i and `prev i` are two
-  abbrev pub prev : ℕ → ℕ
-  prev zero = r .n - 1
-  prev (suc i) = i
+-- the board before board i; its link leads to board i. With n = 2 the links i and `prev n i` are two
+abbrev pub prev : ℕ → ℕ → ℕ
+prev n zero = n - 1
+prev n (suc i) = i
 
 -- the limits: a load, and a load after, is 1 to 4,095
 abbrev pub mostLoad : ℕ
@@ -47,6 +46,10 @@ mostCost = 8000
 -- lo to hi, both among them
 abbrev pub Within : ℕ → ℕ → ℕ → Type 0
 Within lo hi x = (lo ≤ x) × (x ≤ hi)
+
+-- the kind whose links send both ways
+abbrev pub TwoWay : ℕ → Type 0
+TwoWay kind = kind ≡ 3
 
 -- links of kinds 1 and 3 have one cost
 abbrev pub OneCost : ℕ → Type 0

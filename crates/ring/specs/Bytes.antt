@@ -24,4 +24,4 @@ wordBytes x = halfBytes (x / 65536) ++ halfBytes x
 
 -- plan order: by link upward, then by start upward, then by direction, forward first; no two are alike
 abbrev pub InOrder : Send → Send → Type 0
-InOrder s t = (s .link < t .link) ⊎ ((s .link ≡ t .link) × ((s .start < t .start) ⊎ ((s .start ≡ t .start) × (s .way < t .way))))
+InOrder s t = (s .link < t .link) ⊎ ((s .link ≡ t .link) × ((s .start < t .start) ⊎ ((s .start ≡ t .start) × (s .direction < t .direction))))

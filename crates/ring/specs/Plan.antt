@@ -1,9 +1,10 @@
--- Document 01, "The plan": how many items each link carries, which way, when each send starts, and when the last one ends.
+-- Document 01, "The plan": how many items each link carries, in which direction, when each send starts, and when the last one ends.
 use mathlib.Core.Path.{_≡_}
 use mathlib.Core.List.{List}
-use Prim.Native.Nat.{ℕ, zero, suc, _+_, _*_, _-_, _/_, _<_, max}
+use Prim.Native.Nat.{ℕ, zero, suc, _+_, _*_, _-_, _/_, _≤_, _<_, max}
 use lib.Dec.{eqb, ltb}
 use lib.IntN.{ℤ, pos, _-ℤ_}
+use lib.Signed.{_≤ℤ_}
 use Rattle.ring.specs.Numbers.{pick, sum, sumℤ, least, greatest, peak}
 use Rattle.ring.specs.Lists.{joined, upTo}
 use Rattle.ring.specs.Boards.{Ring, prev}
@@ -24,16 +25,23 @@ module _ (r : Ring) where
   abbrev pub S : ℕ → ℤ
   S i = sumℤ surplus (suc i)
 
+  -- S is least after link k, and greatest after link m
+  abbrev pub LeastAt : ℕ → Type 0
+  LeastAt k = (k < r .n) × ((i : ℕ) → i < r .n → S k ≤ℤ S i)
+
+  abbrev pub GreatestAt : ℕ → Type 0
+  GreatestAt m = (m < r .n) × ((i : ℕ) → i < r .n → S i ≤ℤ S m)
+
   -- S(i) raised by the items of the whole ring, so that it is never below 0: the loads of boards 0 to i, and what the boards after
   -- i are to end with. (ring/proofs/Level shows that it is S(i) and the total.)
   unfoldable pub level : ℕ → ℕ
   level i = sum (r .load) (suc i) + (sum (r .after) (r .n) - sum (r .after) (suc i))
 
-  -- the least of them
+  -- the least of them, so low raised as S is
   unfoldable pub low : ℕ
   low = least level (r .n - 1)
 
-  -- the greatest of them
+  -- the greatest of them, high
   unfoldable pub high : ℕ
   high = greatest level (r .n - 1)
 
@@ -45,26 +53,28 @@ module _ (r : Ring) where
   unfoldable pub offset : ℕ
   offset = pick (eqb (r .kind) 3) (low + R / 2) low
 
-  -- f(i) where it is positive: the sends forward
-  unfoldable pub ahead : ℕ → ℕ
-  ahead i = level i - offset
+  -- what the links carry where o, raised as S is, is the number taken from every S
+  module _ (o : ℕ) where
+    -- f(i) where it is positive: the sends forward
+    unfoldable pub ahead : ℕ → ℕ
+    ahead i = level i - o
 
-  -- −f(i) where it is negative: the sends back. One of the two is 0
-  unfoldable pub behind : ℕ → ℕ
-  behind i = offset - level i
+    -- −f(i) where it is negative: the sends back. One of the two is 0
+    unfoldable pub behind : ℕ → ℕ
+    behind i = o - level i
 
-  -- f(i), signed
-  abbrev pub f : ℕ → ℤ
-  f i = pos (ahead i) -ℤ pos (behind i)
+    -- f(i), signed
+    abbrev pub f : ℕ → ℤ
+    f i = pos (ahead i) -ℤ pos (behind i)
 
-  -- |f(i)|, the items that link i carries
-  abbrev pub carries : ℕ → ℕ
-  carries i = ahead i + behind i
+    -- |f(i)|, the items that link i carries
+    abbrev pub carries : ℕ → ℕ
+    carries i = ahead i + behind i
 
   -- kinds 1 and 2: the end of send j of link i, asked of at most d links back round the ring
   unfoldable pub endBack : ℕ → ℕ → ℕ → ℕ
   endBack zero i j = 0
-  endBack (suc d) i j = endsAfter (endBack d (prev r i)) (r .cost i) (r .load i) j
+  endBack (suc d) i j = endsAfter (endBack d (prev (r .n) i)) (r .cost i) (r .load i) j
 
   -- kinds 1 and 2: the end of send j of link i. No link need be asked of more than once, since one carries nothing
   abbrev pub endOf : ℕ → ℕ → ℕ
@@ -73,13 +83,7 @@ module _ (r : Ring) where
   -- of any starts, the end of the send that send j of link i waits for: of send j − load on the link before if j is more than the load of
   -- board i, else 0
   abbrev pub fed : (ℕ → ℕ → ℕ) → ℕ → ℕ → ℕ
-  fed start i j = pick (ltb (r .load i) j) (start (prev r i) (j - r .load i) + r .cost (prev r i)) 0
-
-  -- the rule of waiting in the document's words, of any starts: send j + 1 of link i starts at the later of the end of send j on link i (0 if
-  -- there is none) and the end of the send that it waits for
-  abbrev pub Waits : (ℕ → ℕ → ℕ) → Type 0
-  Waits start =
-      (i j : ℕ) → i < r .n → j < carries i → start i (suc j) ≡ max (pick (ltb 0 j) (start i j + r .cost i) 0) (fed start i (suc j))
+  fed start i j = pick (ltb (r .load i) j) (start (prev (r .n) i) (j - r .load i) + r .cost (prev (r .n) i)) 0
 
   -- |surplus| of board i
   abbrev pub surplusSize : ℕ → ℕ
@@ -89,41 +93,53 @@ module _ (r : Ring) where
   unfoldable pub rounds : ℕ
   rounds = max (greatest surplusSize (r .n - 1)) ((R + 1) / 2)
 
-  -- the start of send j (from 1) of link i: in kind 3 (j − 1) × c forward and (T − |f| + j − 1) × c back, else a cost before its end
-  unfoldable pub startOf : ℕ → ℕ → ℕ
-  startOf i j =
-      pick (eqb (r .kind) 3)
-      (pick (ltb 0 (behind i)) ((rounds - behind i + (j - 1)) * r .cost i) ((j - 1) * r .cost i))
-      (endOf i j - r .cost i)
+  -- the plan where o is that number
+  module _ (o : ℕ) where
+    -- every |f| is at most T
+    abbrev pub WithinT : Type 0
+    WithinT = (i : ℕ) → i < r .n → carries o i ≤ rounds
 
-  -- back where f(i) is negative, else forward
-  abbrev pub wayOf : ℕ → ℕ
-  wayOf i = pick (ltb 0 (behind i)) 1 0
+    -- the rule of waiting in the document's words, of any starts: send j + 1 of link i starts at the later of the end of send j on link i (0 if
+    -- there is none) and the end of the send that it waits for
+    abbrev pub Waits : (ℕ → ℕ → ℕ) → Type 0
+    Waits start =
+        (i j : ℕ) → i < r .n → j < carries o i → start i (suc j) ≡ max (pick (ltb 0 j) (start i j + r .cost i) 0) (fed start i (suc j))
 
-  -- send j (from 1) of link i
-  abbrev pub sendOf : ℕ → ℕ → Send
-  sendOf i j = record { link = i; way = wayOf i; start = startOf i j }
+    -- the start of send j (from 1) of link i: in kind 3 (j − 1) × c forward and (T − |f| + j − 1) × c back, else a cost before its end
+    unfoldable pub startOf : ℕ → ℕ → ℕ
+    startOf i j =
+        pick (eqb (r .kind) 3)
+        (pick (ltb 0 (behind o i)) ((rounds - behind o i + (j - 1)) * r .cost i) ((j - 1) * r .cost i))
+        (endOf i j - r .cost i)
 
-  -- the first k sends of link i
-  abbrev pub linkSends : ℕ → ℕ → List Send
-  linkSends i k = upTo (λ j. sendOf i (suc j)) k
+    -- back where f(i) is negative, else forward
+    abbrev pub directionOf : ℕ → ℕ
+    directionOf i = pick (ltb 0 (behind o i)) 1 0
 
-  -- the sends of the links below k, by link upward, then by start
-  abbrev pub sendsBelow : ℕ → List Send
-  sendsBelow k = joined (λ i. linkSends i (carries i)) k
+    -- send j (from 1) of link i
+    abbrev pub sendOf : ℕ → ℕ → Send
+    sendOf i j = record { link = i; direction = directionOf i; start = startOf i j }
 
-  -- the plan
-  abbrev pub plan : List Send
-  plan = sendsBelow (r .n)
+    -- the first k sends of link i
+    abbrev pub linkSends : ℕ → ℕ → List Send
+    linkSends i k = upTo (λ j. sendOf i (suc j)) k
 
-  -- the finish: T × c in kind 3, else the greatest f(i) × cost(i)
-  unfoldable pub finishOf : ℕ
-  finishOf = pick (eqb (r .kind) 3) (rounds * r .cost 0) (greatest (λ i. carries i * r .cost i) (r .n - 1))
+    -- the sends of the links below k, by link upward, then by start
+    abbrev pub sendsBelow : ℕ → List Send
+    sendsBelow k = joined (λ i. linkSends i (carries o i)) k
 
-  -- the sum of |f(i)|
-  unfoldable pub moves : ℕ
-  moves = sum carries (r .n)
+    -- the plan
+    abbrev pub plan : List Send
+    plan = sendsBelow (r .n)
 
-  -- the lowest-numbered link carrying the most items, link 0 where there are no moves
-  unfoldable pub tight : ℕ
-  tight = peak carries (r .n - 1)
+    -- the finish: T × c in kind 3, else the greatest f(i) × cost(i)
+    unfoldable pub finishOf : ℕ
+    finishOf = pick (eqb (r .kind) 3) (rounds * r .cost 0) (greatest (λ i. carries o i * r .cost i) (r .n - 1))
+
+    -- the sum of |f(i)|
+    unfoldable pub moves : ℕ
+    moves = sum (carries o) (r .n)
+
+    -- the lowest-numbered link carrying the most items, link 0 where there are no moves
+    unfoldable pub tight : ℕ
+    tight = peak (carries o) (r .n - 1)

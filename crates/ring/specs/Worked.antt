@@ -9,7 +9,7 @@ use Rattle.ring.specs.Numbers.{both}
 use Rattle.ring.specs.Lists.{upTo}
 use Rattle.ring.specs.Boards.{Ring, ringIn}
 use Rattle.ring.specs.Schedule.{loadAt, inFlight, finish}
-use Rattle.ring.specs.Plan.{f, rounds, startOf, wayOf, carries, plan, finishOf, moves, tight}
+use Rattle.ring.specs.Plan.{offset, f, rounds, startOf, directionOf, carries, plan, finishOf, moves, tight}
 
 -- one thing that is said of a ring's plan
 pub data Says : Type 0 where
@@ -52,26 +52,26 @@ same (x ∷ xs) (y ∷ ys) = both (eqb (natAbs (x -ℤ y)) 0) (same xs ys)
 abbrev pub alike : List ℕ → List ℕ → Bool
 alike xs ys = same (map pos xs) (map pos ys)
 
--- link i sends this way, and starts at these ticks
-abbrev pub starts : Ring → ℕ → ℕ → List ℕ → Bool
-starts r way i ts = both (eqb (wayOf r i) way) (alike (upTo (λ j. startOf r i (suc j)) (carries r i)) ts)
+-- by the offset o link i sends in this direction, and starts at these ticks
+abbrev pub starts : Ring → ℕ → ℕ → ℕ → List ℕ → Bool
+starts r o direction i ts = both (eqb (directionOf r o i) direction) (alike (upTo (λ j. startOf r o i (suc j)) (carries r o i)) ts)
 
--- what is said holds of the ring's plan
-unfoldable pub holds : Ring → Says → Bool
-holds r (items zs) = same (upTo (f r) (r .n)) zs
-holds r (T t) = eqb (rounds r) t
-holds r (ending t) = both (eqb (finishOf r) t) (eqb (finish r (plan r)) t)
-holds r (forward i ts) = starts r 0 i ts
-holds r (back i ts) = starts r 1 i ts
-holds r (loads t ls) = alike (upTo (λ i. loadAt r (plan r) i t) (r .n)) ls
-holds r (flying t k) = eqb (inFlight r (plan r) t) k
-holds r (bytes k) = eqb (15 + 6 * length (plan r)) k
-holds r (sent k) = both (eqb (moves r) k) (eqb (length (plan r)) k)
-holds r (tightest i) = eqb (tight r) i
+-- what is said holds of the ring's plan by the offset o
+unfoldable pub holds : Ring → ℕ → Says → Bool
+holds r o (items zs) = same (upTo (f r o) (r .n)) zs
+holds r o (T t) = eqb (rounds r) t
+holds r o (ending t) = both (eqb (finishOf r o) t) (eqb (finish r (plan r o)) t)
+holds r o (forward i ts) = starts r o 0 i ts
+holds r o (back i ts) = starts r o 1 i ts
+holds r o (loads t ls) = alike (upTo (λ i. loadAt r (plan r o) i t) (r .n)) ls
+holds r o (flying t k) = eqb (inFlight r (plan r o) t) k
+holds r o (bytes k) = eqb (15 + 6 * length (plan r o)) k
+holds r o (sent k) = both (eqb (moves r o) k) (eqb (length (plan r o)) k)
+holds r o (tightest i) = eqb (tight r o) i
 
 -- all that is said of each ring holds
 abbrev pub allHold : List Row → Bool
-allHold rows = every (map (λ (w : Row). every (map (holds (w .ring)) (w .says))) rows)
+allHold rows = every (map (λ (w : Row). every (map (holds (w .ring) (offset (w .ring))) (w .says))) rows)
 
 -- −k, to write the table with
 abbrev pub minus : ℕ → ℤ

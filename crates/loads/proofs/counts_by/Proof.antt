@@ -23,14 +23,14 @@ link-in : (c : tie.In-loop Inv-loop μ-loop) → getD (c .before .before .before
 link-in c = c .before .before .before .before .pre .1 (c .before .loop .k) (omega arith)
 
 -- its two boards
-boards : (c : tie.After-by-way2 Inv-loop μ-loop)
+boards : (c : tie.After-by-direction2 Inv-loop μ-loop)
     → let l = c .before .before .before .before .before .before .before .before .before in
     let a = l .before .before .before .args in
     let at = recordPlace (l .loop .k) in
-    Between (a .n) (getD (a .plan .now) at 0) (getD (a .plan .now) (at + 1) 0) (c .before .by-way .result) (c .by-way2 .result)
+    Between (a .n) (getD (a .plan .now) at 0) (getD (a .plan .now) (at + 1) 0) (c .before .by-direction .result) (c .by-direction2 .result)
 boards c =
     let e = c .before .before in
-    between _ _ _ _ _ _ (link-in (e .before .before .before .before .before .before)) (e .next .ensures) (c .before .by-way .ensures) (c .by-way2 .ensures)
+    between _ _ _ _ _ _ (link-in (e .before .before .before .before .before .before)) (e .next .ensures) (c .before .by-direction .ensures) (c .by-direction2 .ensures)
 
 loop-holds : tie.Need-loop-holds Inv-loop μ-loop
 loop-holds c = (omega arith, none-held (c .before .before .pre .0 .0))
@@ -50,11 +50,11 @@ shared-slice-read-link c = search needs
 cast-link : tie.Need-cast-link Inv-loop μ-loop
 cast-link c = omega (arith, c .shared-slice-known3 .given (recordPlace (c .before .before .loop .k)))
 
-add-way : tie.Need-add-way Inv-loop μ-loop
-add-way c = search needs
+add-direction : tie.Need-add-direction Inv-loop μ-loop
+add-direction c = search needs
 
-shared-slice-read-way : tie.Need-shared-slice-read-way Inv-loop μ-loop
-shared-slice-read-way c = search needs
+shared-slice-read-direction : tie.Need-shared-slice-read-direction Inv-loop μ-loop
+shared-slice-read-direction c = search needs
 
 add-word : tie.Need-add-word Inv-loop μ-loop
 add-word c = search needs
@@ -74,11 +74,11 @@ end-of-requires c κs = search needs
 next-requires : tie.Need-next-requires Inv-loop μ-loop
 next-requires c κs = link-in (c .before .before .before .before .before)
 
-by-way-requires : tie.Need-by-way-requires Inv-loop μ-loop
-by-way-requires c κs = search needs
+by-direction-requires : tie.Need-by-direction-requires Inv-loop μ-loop
+by-direction-requires c κs = search needs
 
-by-way-requires-2 : tie.Need-by-way-requires-2 Inv-loop μ-loop
-by-way-requires-2 c κs = search needs
+by-direction-requires-2 : tie.Need-by-direction-requires-2 Inv-loop μ-loop
+by-direction-requires-2 c κs = search needs
 
 one-if-requires : tie.Need-one-if-requires Inv-loop μ-loop
 one-if-requires c κs = search needs
@@ -146,16 +146,16 @@ counts-by-spec =
     add-at
     shared-slice-read-link
     cast-link
-    add-way
-    shared-slice-read-way
+    add-direction
+    shared-slice-read-direction
     add-word
     word-requires
     mul-end-of
     shared-slice-read-end-of
     end-of-requires
     next-requires
-    by-way-requires
-    by-way-requires-2
+    by-direction-requires
+    by-direction-requires-2
     one-if-requires
     mul-received
     array-read-received

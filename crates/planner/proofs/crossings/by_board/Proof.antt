@@ -1,13 +1,11 @@
 -- `crossings::by_board`: each board's numbers, one after the other. Assumes nothing.
 use mathlib.Core.Path.{_≡_, refl, ap, _∙_}
-use mathlib.Core.List.{[]}
 use Prim.Native.Nat.{ℕ, _+_, _-_, _≤_, _<_}
 use native.Mathlib.Omega.{arith}
 use native.Mathlib.Numerals.{add-one}
 use lib.ListN.{getD, set}
 use Rattle.ring.specs.Lists.{fill}
 use Rattle.ring.proofs.Neighbours.{prev-below}
-use Rattle.planner.specs.Runs.{oneWay}
 use Rattle.planner.specs.Outline.{crossings}
 use borrow.Author.Needs.{needs}
 use Rattle.planner.proofs.crossings.by_board.Statement.{statement}
@@ -22,7 +20,7 @@ abbrev μ-loop : tie.MeasureT-loop
 
 -- the link before board i's is one of the links, and no link carries too many items
 before-here : (c : tie.After-link-before Inv-loop μ-loop) → c .link-before .result < c .before .before .before .before .before .args .n
-before-here c = rw (c .link-before .ensures) (prev-below (oneWay (c .before .before .before .before .before .args .n) [] []) (c .before .before .before .loop .i) (c .before .before .loop-test .taken))
+before-here c = rw (c .link-before .ensures) (prev-below (c .before .before .before .before .before .args .n) (c .before .before .before .loop .i) (c .before .before .loop-test .taken))
 
 loop-holds : tie.Need-loop-holds Inv-loop μ-loop
 unfolding fill

@@ -42,7 +42,7 @@ same-length c = search needs
 
 returns : tie.Need-returns
 unfolding sendBytes
-returns c = let a = c .args in sets-eq (sendBytes (record { link = a .link; way = a .way; start = a .start })) (a .part .now) 0 (c .pre)
+returns c = let a = c .args in sets-eq (sendBytes (record { link = a .link; direction = a .direction; start = a .start })) (a .part .now) 0 (c .pre)
 
 pub put-record-spec : {M : Type 1} → statement M
 put-record-spec =

@@ -16,10 +16,10 @@ use Rattle.planner.proofs.records.put_run.Statement.{statement}
 use Rattle.planner.proofs.records.put_run.Tie as tie
 
 abbrev Inv-loop : tie.InvT-loop
-Inv-loop part₀ link way count first step n wide start₀ x₀ part start x = (x ≤ count) × (start ≡ first + x * step) × Begins part₀ (linkBytes link way (λ k. first + k * step) x) (6 * x) part
+Inv-loop part₀ link direction count first step n wide start₀ x₀ part start x = (x ≤ count) × (start ≡ first + x * step) × Begins part₀ (linkBytes link direction (λ k. first + k * step) x) (6 * x) part
 
 abbrev μ-loop : tie.MeasureT-loop
-μ-loop part₀ link way count first step n wide start₀ x₀ part start x = count - x
+μ-loop part₀ link direction count first step n wide start₀ x₀ part start x = count - x
 
 loop-holds : tie.Need-loop-holds Inv-loop μ-loop
 unfolding joined
@@ -56,7 +56,7 @@ loop-again c =
     let a = l .before .before .args in
     let x = l .loop .x in
     let q : 6 * (x + 1) ≡ 6 * x + 6 = omega arith in
-    let send : ℕ → List ℕ = λ start. sendBytes (record { link = a .link; way = a .way; start = start }) in
+    let send : ℕ → List ℕ = λ start. sendBytes (record { link = a .link; direction = a .direction; start = start }) in
     let wrote = r .put-record .ensures ∙ (λ i. send (l .loop .inv .1 i) ++ drop 6 (midOf (6 * x) (length (l .loop .part) - 6 * x) (l .loop .part))) in
     (omega arith, omega arith, rw q (more [] (λ k. send (a .first + k * a .step)) x 6 (r .put-record .last .0) (l .loop .inv .2) (send-long _) (omega arith) wrote))
 

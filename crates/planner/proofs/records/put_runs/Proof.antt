@@ -9,13 +9,13 @@ use Rattle.planner.proofs.records.put_runs.Statement.{statement}
 use Rattle.planner.proofs.records.put_runs.Tie as tie
 
 abbrev Inv-loop : tie.InvT-loop
-Inv-loop part₀ link way count from first step m begin₀ e₀ part begin e = (e ≤ m) × Ran from first step m count link way part₀ begin e part
+Inv-loop part₀ link direction count from first step m begin₀ e₀ part begin e = (e ≤ m) × Ran from first step m count link direction part₀ begin e part
 
 abbrev μ-loop : tie.MeasureT-loop
-μ-loop part₀ link way count from first step m begin₀ e₀ part begin e = m - e
+μ-loop part₀ link direction count from first step m begin₀ e₀ part begin e = m - e
 
 loop-holds : tie.Need-loop-holds Inv-loop μ-loop
-loop-holds c = let s = c .before .before .before .before in (omega arith, none-ran (s .pre .1) (s .args .link) (s .args .way) (s .args .part .now))
+loop-holds c = let s = c .before .before .before .before in (omega arith, none-ran (s .pre .1) (s .args .link) (s .args .direction) (s .args .part .now))
 
 add-edge : tie.Need-add-edge Inv-loop μ-loop
 add-edge c = search needs
@@ -72,7 +72,7 @@ loop-again c =
     let d = p .before .before .before .before in
     let l = d .before .before in
     let s = l .before .before .before .before .before in
-    (omega arith, one-ran (s .pre .1) (s .args .link) (s .args .way) (s .args .part .now) (l .loop .begin) (l .loop .e) (d .edge .result) (l .loop .part) (p .put-run .last .0) (d .before .loop-test .taken) (d .edge .ensures) (s .pre .0) (l .loop .inv .1) (p .put-run .ensures))
+    (omega arith, one-ran (s .pre .1) (s .args .link) (s .args .direction) (s .args .part .now) (l .loop .begin) (l .loop .e) (d .edge .result) (l .loop .part) (p .put-run .last .0) (d .before .loop-test .taken) (d .edge .ensures) (s .pre .0) (l .loop .inv .1) (p .put-run .ensures))
 
 same-length : tie.Need-same-length Inv-loop μ-loop
 same-length c = search needs
@@ -82,7 +82,7 @@ returns c =
     let l = c .before in
     let s = l .before .before .before .before .before in
     let q : l .loop .e ≡ s .args .m = omega arith in
-    all-ran (s .pre .1) (s .args .link) (s .args .way) (s .args .part .now) (rw q at (l .loop .inv .1))
+    all-ran (s .pre .1) (s .args .link) (s .args .direction) (s .args .part .now) (rw q at (l .loop .inv .1))
 
 pub put-runs-spec : {M : Type 1} → statement M
 put-runs-spec =
