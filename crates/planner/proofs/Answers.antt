@@ -16,7 +16,8 @@ use Rattle.ring.proofs.Offset.{fits}
 use Rattle.planner.specs.declared.Planned.{Planned}
 use Rattle.planner.specs.declared.Planned.the-variants.{Plan, Refused}
 use Rattle.planner.specs.declared.sums.Outline.{Outline}
-use Rattle.planner.specs.PlanBytes.{headBytes, recordsOf, planBytes, planLength}
+use Rattle.ring.specs.Bytes.{planHead, recordsOf}
+use Rattle.planner.specs.PlanBytes.{planBytes, planLength}
 use Rattle.planner.specs.Answer.{weighedOf, answerFor}
 use Rattle.planner.specs.Outline.{carriesIn, outlineOf, Lent}
 use Rattle.planner.specs.Links.{pieceBy, Linked, linksAfter}
@@ -71,7 +72,7 @@ module _ (kind n : ℕ) (loads : List ℕ) (surpluses : List ℤ) (costs : List 
     room-for bytes h = omega (arith, items)
 
     -- the head and the links together are the plan
-    pub laid-out : (f m : ℕ) (xs ys zs : List ℕ) → f ≡ finishOf (ringIn kind n loads surpluses costs) (offset (ringIn kind n loads surpluses costs)) → m ≡ moves (ringIn kind n loads surpluses costs) (offset (ringIn kind n loads surpluses costs)) → ys ≡ headBytes kind n f m ++ drop 15 xs
+    pub laid-out : (f m : ℕ) (xs ys zs : List ℕ) → f ≡ finishOf (ringIn kind n loads surpluses costs) (offset (ringIn kind n loads surpluses costs)) → m ≡ moves (ringIn kind n loads surpluses costs) (offset (ringIn kind n loads surpluses costs)) → ys ≡ planHead kind n f m ++ drop 15 xs
         → zs ≡ linksAfter kind n loads costs levels (o .offset) (o .rounds) ys
         → zs ≡ planBytes (ringIn kind n loads surpluses costs) ++ drop (planLength (ringIn kind n loads surpluses costs)) xs
     laid-out f m xs ys zs ef em head wrote =
@@ -80,5 +81,5 @@ module _ (kind n : ℕ) (loads : List ℕ) (surpluses : List ℤ) (costs : List 
         (λ t. joined (λ i. pieceBy kind n loads costs (getD levels i 0) (is t .offset) (is t .rounds) i) n) ∙ pieces-are kind n loads surpluses costs (offset r) levels level-is in
         wrote
         ∙ (λ t. (take 15 ys ++ pieces t) ++ drop (15 + 6 * items t) ys)
-        ∙ past-head (headBytes kind n f m) ys xs (recordsOf (plan r (offset r))) 15 (6 * moves r (offset r)) (head-long kind n f m) head
-        ∙ (λ t. (headBytes kind n (ef t) (em t) ++ recordsOf (plan r (offset r))) ++ drop (15 + 6 * moves r (offset r)) xs)
+        ∙ past-head (planHead kind n f m) ys xs (recordsOf (plan r (offset r))) 15 (6 * moves r (offset r)) (head-long kind n f m) head
+        ∙ (λ t. (planHead kind n (ef t) (em t) ++ recordsOf (plan r (offset r))) ++ drop (15 + 6 * moves r (offset r)) xs)

@@ -12,7 +12,8 @@ use Rattle.ring.specs.Schedule.{Send}
 use Rattle.ring.specs.Plan.{offset, plan, sendOf, directionOf, startOf, linkSends, carries, finishOf, moves}
 use Rattle.ring.proofs.Joined.{joined-same, joined-add}
 use Rattle.hop.proofs.Pieces.{joined-long}
-use Rattle.planner.specs.PlanBytes.{sendBytes, recordsOf, headBytes, planBytes}
+use Rattle.ring.specs.Bytes.{sendBytes, recordsOf, planHead}
+use Rattle.planner.specs.PlanBytes.{planBytes}
 use Rattle.planner.specs.EvenRuns.{linkBytes}
 
 pub send-long : (s : Send) → length (sendBytes s) ≡ 6
@@ -22,8 +23,8 @@ send-long s = refl
 pub link-long : (link direction : ℕ) (start : ℕ → ℕ) (k : ℕ) → length (linkBytes link direction start k) ≡ 6 * k
 link-long link direction start k = joined-long (λ x. sendBytes (record { link = link; direction = direction; start = start x })) (λ x. send-long _) k
 
-pub head-long : (kind n finish moves : ℕ) → length (headBytes kind n finish moves) ≡ 15
-unfolding headBytes
+pub head-long : (kind n finish moves : ℕ) → length (planHead kind n finish moves) ≡ 15
+unfolding planHead
 head-long kind n finish moves = refl
 
 pub records-long : (σ : List Send) → length (recordsOf σ) ≡ 6 * length σ
@@ -67,7 +68,7 @@ module _ (r : Ring) (rest : List ℕ) (i : ℕ) (h : i < r .n) where
   pub link-begins : take (6 * carries r (offset r) i) (drop (15 + 6 * sum (carries r (offset r)) i) (planBytes r ++ rest)) ≡ recordsOf (linkSends r (offset r) i (carries r (offset r) i))
   unfolding joined
   link-begins =
-      let head = headBytes (r .kind) (r .n) (finishOf r (offset r)) (moves r (offset r)) in
+      let head = planHead (r .kind) (r .n) (finishOf r (offset r)) (moves r (offset r)) in
       let later = joined (λ x. piece (suc i + x)) (r .n - suc i) in
       let n : r .n ≡ suc i + (r .n - suc i) = omega arith in
       let split : recordsOf (plan r (offset r)) ≡ (joined piece i ++ piece i) ++ later =

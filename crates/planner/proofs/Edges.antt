@@ -12,7 +12,7 @@ use borrow.Rule.Slice.PartMut.{putMid, midOf}
 use borrow.Author.Tests.{ltb-true, ltb-false, lt-ltb, le-ltb}
 use Rattle.ring.specs.Lists.{each, joined}
 use Rattle.ring.proofs.Joined.{joined-same, joined-add}
-use Rattle.planner.specs.PlanBytes.{sendBytes}
+use Rattle.ring.specs.Bytes.{sendBytes}
 use Rattle.planner.specs.Runs.{In}
 use Rattle.planner.specs.EvenRuns.{linkBytes, edgeOf, Even, runsBytes}
 use Rattle.hop.proofs.Grow.{Begins, more}

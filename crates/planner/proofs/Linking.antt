@@ -5,7 +5,7 @@ use Prim.Native.Nat.{ℕ, _+_, _*_, _-_, _≤_, _<_}
 use native.Mathlib.Omega.{arith}
 use lib.ListN.{length, drop, getD}
 use borrow.Author.Tests.{lt-ltb, le-ltb, eq-eqb, ne-eqb}
-use Rattle.planner.specs.PlanBytes.{sendBytes}
+use Rattle.ring.specs.Bytes.{sendBytes}
 use Rattle.ring.specs.Lists.{each}
 use Rattle.planner.specs.Runs.{oneWay, startBack, Runs}
 use Rattle.planner.specs.EvenRuns.{linkBytes, Even, runsBytes}

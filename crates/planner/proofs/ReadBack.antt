@@ -10,8 +10,8 @@ use Rattle.ring.specs.Lists.{Each}
 use Rattle.ring.specs.Boards.{Ring}
 use Rattle.ring.specs.Schedule.{Send, Allowed, finish}
 use Rattle.ring.specs.Plan.{offset, plan, finishOf, moves}
-use Rattle.ring.specs.Bytes.{wordAt, wordBytes}
-use Rattle.planner.specs.PlanBytes.{sendBytes, recordsOf, headBytes, planBytes, finishIn, movesIn, planIn, recordPlace, recordAt, recordsIn}
+use Rattle.ring.specs.Bytes.{wordAt, wordBytes, sendBytes, recordsOf, planHead}
+use Rattle.planner.specs.PlanBytes.{planBytes, finishIn, movesIn, planIn, recordPlace, recordAt, recordsIn}
 use Rattle.planner.proofs.Bytes.{send-long, head-long}
 use Rattle.ring.proofs.Moves.{as-many}
 use Rattle.ring.proofs.Joined.{joined-same, first-of}
@@ -67,17 +67,17 @@ record-at (s ∷ σ) h rest (suc k) l =
 
 module _ (r : Ring) (rest : List ℕ) where
   pub finish-back : finishOf r (offset r) < 4294967296 → finishIn (planBytes r ++ rest) ≡ finishOf r (offset r)
-  unfolding headBytes
+  unfolding planHead
   finish-back h = word-back (finishOf r (offset r)) h
 
   pub moves-back : moves r (offset r) < 4294967296 → movesIn (planBytes r ++ rest) ≡ moves r (offset r)
-  unfolding headBytes
+  unfolding planHead
   moves-back h = word-back (moves r (offset r)) h
 
 module _ (r : Ring) (fit : Each Fitting (plan r (offset r))) (rest : List ℕ) where
   record-is : (k : ℕ) → k < moves r (offset r) → recordAt (planBytes r ++ rest) (recordPlace k) ≡ getD (plan r (offset r)) k none
   record-is k h =
-      let head = headBytes (r .kind) (r .n) (finishOf r (offset r)) (moves r (offset r)) in
+      let head = planHead (r .kind) (r .n) (finishOf r (offset r)) (moves r (offset r)) in
       rw (append-assoc head (recordsOf (plan r (offset r))) rest)
       (behind head (recordsOf (plan r (offset r)) ++ rest) 15 (6 * k) (head-long (r .kind) (r .n) (finishOf r (offset r)) (moves r (offset r))) ∙ record-at (plan r (offset r)) fit rest k (omega (arith, as-many r (offset r))))
 

@@ -15,7 +15,7 @@ use Rattle.ring.specs.Plan.{level, ahead, behind, carries, rounds, WithinT, sta
 use Rattle.ring.proofs.Level.{One, Fits, none-behind}
 use Rattle.ring.proofs.Best.{timed}
 use Rattle.ring.proofs.Joined.{joined-same}
-use Rattle.planner.specs.PlanBytes.{sendBytes, recordsOf}
+use Rattle.ring.specs.Bytes.{sendBytes, recordsOf}
 use Rattle.planner.specs.Runs.{oneWay, startBack}
 use Rattle.planner.specs.Links.{startBy, pieceBy, Linked}
 use Rattle.planner.proofs.Bytes.{records-plan}

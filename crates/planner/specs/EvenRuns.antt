@@ -7,7 +7,7 @@ use lib.Dec.{ltb}
 use lib.ListN.{length}
 use Rattle.ring.specs.Numbers.{pick}
 use Rattle.ring.specs.Lists.{each, joined}
-use Rattle.planner.specs.PlanBytes.{sendBytes}
+use Rattle.ring.specs.Bytes.{sendBytes}
 use Rattle.planner.specs.Runs.{In, Cover}
 
 -- the records of a link's first k sends: send x, from 0, starts at `start x`

@@ -1,25 +1,12 @@
--- Document 01, "Bytes": the bytes of a plan, and what is read from them.
-use mathlib.Core.List.{List, [], _∷_, _++_}
+-- Document 01, "Bytes": the bytes of a ring's plan, their places, and what is read from them.
+use mathlib.Core.List.{List}
 use Prim.Native.Nat.{ℕ, _+_, _*_}
 use lib.ListN.{getD}
 use Rattle.ring.specs.Lists.{upTo}
 use Rattle.ring.specs.Boards.{Ring}
 use Rattle.ring.specs.Schedule.{Send}
-use Rattle.ring.specs.Plan.{offset, plan, finishOf, moves}
-use Rattle.ring.specs.Bytes.{wordAt, wordBytes}
-
--- a record: link, direction, start
-unfoldable pub sendBytes : Send → List ℕ
-sendBytes s = s .link ∷ s .direction ∷ wordBytes (s .start)
-
--- the records of a list of sends, one after another
-unfoldable pub recordsOf : List Send → List ℕ
-recordsOf [] = []
-recordsOf (s ∷ σ) = sendBytes s ++ recordsOf σ
-
--- what stands before the records: mark "PLN", version 1, kind, n, finish, moves
-unfoldable pub headBytes : ℕ → ℕ → ℕ → ℕ → List ℕ
-headBytes kind n finish moves = 80 ∷ 76 ∷ 78 ∷ 0 ∷ 1 ∷ kind ∷ n ∷ wordBytes finish ++ wordBytes moves
+use Rattle.ring.specs.Plan.{offset, moves}
+use Rattle.ring.specs.Bytes.{wordAt, planBytesBy}
 
 -- the place of record k, from 0
 abbrev pub recordPlace : ℕ → ℕ
@@ -28,7 +15,7 @@ recordPlace k = 15 + 6 * k
 module _ (r : Ring) where
   -- the plan's bytes
   abbrev pub planBytes : List ℕ
-  planBytes = headBytes (r .kind) (r .n) (finishOf r (offset r)) (moves r (offset r)) ++ recordsOf (plan r (offset r))
+  planBytes = planBytesBy r (offset r)
 
   -- how many they are: up to the place after the last record
   abbrev pub planLength : ℕ

@@ -3,13 +3,13 @@ ghost use mathlib.Core.Path.{_≡_};
 ghost use Prim.Native.Nat.{_+_, _*_, _<_, _≤_};
 ghost use mathlib.Core.List.{_++_};
 ghost use lib.ListN.{length, drop};
-ghost use Rattle.planner.specs.PlanBytes.{sendBytes, headBytes};
+ghost use Rattle.ring.specs.Bytes.{sendBytes, planHead};
 ghost use Rattle.planner.specs.EvenRuns.{linkBytes, edgeOf, Even, runsBytes};
 
 // The 15 bytes before the records, at the front of a plan's buffer.
 pub(crate) fn put_head(buf: &mut [u8], kind: u8, n: u8, finish: u32, moves: u32)
     requires { ⌜ 15 ≤ length (now buf) ⌝ }
-    ensures { λ _. ⌜ now (buf .exit) ≡ headBytes kind n finish moves ++ drop 15 (now (buf .entry)) ⌝ }
+    ensures { λ _. ⌜ now (buf .exit) ≡ planHead kind n finish moves ++ drop 15 (now (buf .entry)) ⌝ }
 {
     buf[0] = b'P';
     buf[1] = b'L';

@@ -1,7 +1,7 @@
 -- Document 01, "Rings worked by hand": the rings marked *, each with what the document says of it, and the test that it is so.
 use mathlib.Core.Bool.{Bool, true, false}
 use mathlib.Core.List.{List, [], _∷_, map}
-use Prim.Native.Nat.{ℕ, zero, suc, _+_, _*_}
+use Prim.Native.Nat.{ℕ, zero, suc}
 use lib.Dec.{eqb}
 use lib.IntN.{ℤ, pos, negsuc, _-ℤ_, natAbs}
 use lib.ListN.{length}
@@ -10,6 +10,7 @@ use Rattle.ring.specs.Lists.{upTo}
 use Rattle.ring.specs.Boards.{Ring, ringIn}
 use Rattle.ring.specs.Schedule.{loadAt, inFlight, finish}
 use Rattle.ring.specs.Plan.{offset, f, rounds, startOf, directionOf, carries, plan, finishOf, moves, tight}
+use Rattle.ring.specs.Bytes.{planBytesBy}
 
 -- one thing that is said of a ring's plan
 pub data Says : Type 0 where
@@ -25,7 +26,7 @@ pub data Says : Type 0 where
   -- a tick, and the loads of the boards and the number of items in flight then
   loads : ℕ → List ℕ → Says
   flying : ℕ → ℕ → Says
-  -- the length of the plan in bytes, 15 + 6 × moves
+  -- how many bytes the plan has
   bytes : ℕ → Says
   -- the moves, and the tight link
   sent : ℕ → Says
@@ -65,7 +66,7 @@ holds r o (forward i ts) = starts r o 0 i ts
 holds r o (back i ts) = starts r o 1 i ts
 holds r o (loads t ls) = alike (upTo (λ i. loadAt r (plan r o) i t) (r .n)) ls
 holds r o (flying t k) = eqb (inFlight r (plan r o) t) k
-holds r o (bytes k) = eqb (15 + 6 * length (plan r o)) k
+holds r o (bytes k) = eqb (length (planBytesBy r o)) k
 holds r o (sent k) = both (eqb (moves r o) k) (eqb (length (plan r o)) k)
 holds r o (tightest i) = eqb (tight r o) i
 

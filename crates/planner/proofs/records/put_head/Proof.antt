@@ -2,7 +2,7 @@
 use native.Mathlib.Omega.{arith}
 use lib.ListN.{length-set}
 use lib.Seq.{sets-eq}
-use Rattle.planner.specs.PlanBytes.{headBytes}
+use Rattle.ring.specs.Bytes.{planHead}
 use borrow.Author.Needs.{needs}
 use Rattle.planner.proofs.records.put_head.Statement.{statement}
 use Rattle.planner.proofs.records.put_head.Tie as tie
@@ -80,8 +80,8 @@ same-length : tie.Need-same-length
 same-length c = simp length-set
 
 returns : tie.Need-returns
-unfolding headBytes
-returns c = let a = c .args in sets-eq (headBytes (a .kind) (a .n) (a .finish) (a .moves)) (a .buf .now) 0 (c .pre)
+unfolding planHead
+returns c = let a = c .args in sets-eq (planHead (a .kind) (a .n) (a .finish) (a .moves)) (a .buf .now) 0 (c .pre)
 
 pub put-head-spec : {M : Type 1} → statement M
 put-head-spec =

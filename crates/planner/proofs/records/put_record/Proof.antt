@@ -2,7 +2,7 @@
 use native.Mathlib.Omega.{arith}
 use lib.ListN.{length-set}
 use lib.Seq.{sets-eq}
-use Rattle.planner.specs.PlanBytes.{sendBytes}
+use Rattle.ring.specs.Bytes.{sendBytes}
 use borrow.Author.Needs.{needs}
 use Rattle.planner.proofs.records.put_record.Statement.{statement}
 use Rattle.planner.proofs.records.put_record.Tie as tie

@@ -8,7 +8,7 @@ use lib.ListN.{length, drop}
 use borrow.Rule.Slice.PartMut.{midOf}
 use borrow.Author.Needs.{needs}
 use Rattle.ring.specs.Lists.{joined}
-use Rattle.planner.specs.PlanBytes.{sendBytes}
+use Rattle.ring.specs.Bytes.{sendBytes}
 use Rattle.planner.specs.EvenRuns.{linkBytes}
 use Rattle.hop.proofs.Grow.{Begins, more}
 use Rattle.planner.proofs.Bytes.{send-long}
