@@ -2,66 +2,67 @@
 // include/fallowroe.h declares the four functions to C.
 ghost use mathlib.Core.Path.{_≡_};
 ghost use lib.ListN.{length};
+ghost use mathlib.Core.List.{[], _∷_};
+ghost use Rattle.hop.specs.Answers.{refusal, ofCheck, ofWritten};
 ghost use Rattle.hop.specs.Read.{checkOf, jobOf};
 ghost use Rattle.hop.specs.Write.{writtenOf, bufferOf};
-ghost use Rattle.planner.specs.Answer.{planAnswer, planMemory};
+ghost use Rattle.planner.specs.Answer.{ofPlanned, planAnswer, planMemory};
 ghost use Rattle.loads.specs.Query.{queryAnswer, queryPlan, queryLoads};
-ghost use Rattle.capi.specs.Convention.{codeOf, valuesOf, ofCheck, ofWritten, ofPlanned};
+ghost use Rattle.capi.specs.Convention.{codeOf, valuesOf};
 use hop::Check;
 use hop::Written;
 use planner::Planned;
 
-// What a caller is told: three values, or the refusal's number and board.
-enum Told {
-    Values(u64, u64, u64),
-    Refused { number: u8, board: u8 },
+// Success: code 0, and the values in their lent places.
+fn succeed(a: u64, b: u64, c: u64, values: &mut [u64; 3]) -> u64
+    ensures { λ r. ⌜ r ≡ 0 ⌝ }
+    ensures { λ _. ⌜ now (values .exit) ≡ a ∷ b ∷ c ∷ [] ⌝ }
+{
+    *values = [a, b, c];
+    0
 }
 
-// The kind and n, or the refusal.
-fn of_check(answer: Check) -> Told
-    ensures { λ r. ⌜ r ≡ ofCheck answer ⌝ }
+// The code of a refusal.
+fn refuse(number: u8, board: u8) -> u64
+    ensures { λ r. ⌜ r ≡ codeOf (refusal number board) ⌝ }
+{
+    (number as u64) + 256 * (board as u64)
+}
+
+// Tells the kind and n, or the refusal.
+fn tell_check(answer: Check, values: &mut [u64; 3]) -> u64
+    ensures { λ r. ⌜ r ≡ codeOf (ofCheck answer) ⌝ }
+    ensures { λ _. ⌜ now (values .exit) ≡ valuesOf (ofCheck answer) (now (values .entry)) ⌝ }
 {
     match answer {
-        Check::Ring { kind, n } => Told::Values(kind as u64, n as u64, 0),
-        Check::Refused { number, board } => Told::Refused { number, board },
+        Check::Ring { kind, n } => succeed(kind as u64, n as u64, 0, values),
+        Check::Refused { number, board } => refuse(number, board),
     }
 }
 
-// The length written, or the refusal.
-fn of_written(answer: Written) -> Told
-    ensures { λ r. ⌜ r ≡ ofWritten answer ⌝ }
+// Tells the length written, or the refusal.
+fn tell_written(answer: Written, values: &mut [u64; 3]) -> u64
+    ensures { λ r. ⌜ r ≡ codeOf (ofWritten answer) ⌝ }
+    ensures { λ _. ⌜ now (values .exit) ≡ valuesOf (ofWritten answer) (now (values .entry)) ⌝ }
 {
     match answer {
-        Written::Bytes(length) => Told::Values(length as u64, 0, 0),
-        Written::Refused { number, board } => Told::Refused { number, board },
+        Written::Bytes(length) => succeed(length as u64, 0, 0, values),
+        Written::Refused { number, board } => refuse(number, board),
     }
 }
 
-// Finish, moves and tight link, or the refusal.
-fn of_planned(answer: Planned) -> Told
-    ensures { λ r. ⌜ r ≡ ofPlanned answer ⌝ }
+// Tells finish, moves and tight link, or the refusal.
+fn tell_planned(answer: Planned, values: &mut [u64; 3]) -> u64
+    ensures { λ r. ⌜ r ≡ codeOf (ofPlanned answer) ⌝ }
+    ensures { λ _. ⌜ now (values .exit) ≡ valuesOf (ofPlanned answer) (now (values .entry)) ⌝ }
 {
     match answer {
         Planned::Plan {
             finish,
             moves,
             tight,
-        } => Told::Values(finish as u64, moves as u64, tight as u64),
-        Planned::Refused { number, board } => Told::Refused { number, board },
-    }
-}
-
-// The code of what is told, and its values in the lent places.
-fn tell(told: Told, values: &mut [u64; 3]) -> u64
-    ensures { λ r. ⌜ r ≡ codeOf told ⌝ }
-    ensures { λ _. ⌜ now (values .exit) ≡ valuesOf told (now (values .entry)) ⌝ }
-{
-    match told {
-        Told::Values(a, b, c) => {
-            *values = [a, b, c];
-            0
-        }
-        Told::Refused { number, board } => (number as u64) + 256 * (board as u64),
+        } => succeed(finish as u64, moves as u64, tight as u64, values),
+        Planned::Refused { number, board } => refuse(number, board),
     }
 }
 
@@ -73,7 +74,7 @@ pub extern "C" fn fallowroe_check(job: &[u8], values: &mut [u64; 3]) -> u64
 {
     let read = hop::read(job);
     let answer = read.answer;
-    tell(of_check(answer), values)
+    tell_check(answer, values)
 }
 
 // The job of a kind and three lists, written at the front of a buffer: its length.
@@ -90,10 +91,7 @@ pub extern "C" fn fallowroe_write(
     ensures { λ _. ⌜ now (job .exit) ≡ bufferOf kind (now (loads .entry)) (now (surpluses .entry)) (now (costs .entry)) (now (job .entry)) ⌝ }
     ensures { λ _. ⌜ now (values .exit) ≡ valuesOf (ofWritten (writtenOf kind (now (loads .entry)) (now (surpluses .entry)) (now (costs .entry)) (length (now (job .entry))))) (now (values .entry)) ⌝ }
 {
-    tell(
-        of_written(hop::write(kind, loads, surpluses, costs, job)),
-        values,
-    )
+    tell_written(hop::write(kind, loads, surpluses, costs, job), values)
 }
 
 // The plan of a job, at the front of a buffer: finish, moves and tight link.
@@ -103,7 +101,7 @@ pub extern "C" fn fallowroe_plan(job: &[u8], plan: &mut [u8], values: &mut [u64;
     ensures { λ _. ⌜ now (plan .exit) ≡ planMemory (jobOf (now (job .entry))) (now (plan .entry)) ⌝ }
     ensures { λ _. ⌜ now (values .exit) ≡ valuesOf (ofPlanned (planAnswer (jobOf (now (job .entry))) (length (now (plan .entry))))) (now (values .entry)) ⌝ }
 {
-    tell(of_planned(planner::plan(job, plan)), values)
+    tell_planned(planner::plan(job, plan), values)
 }
 
 // The plan as above, and the load of each board at a tick in a list's first places.
@@ -120,5 +118,5 @@ pub extern "C" fn fallowroe_loads(
     ensures { λ _. ⌜ now (list .exit) ≡ queryLoads (jobOf (now (job .entry))) tick (length (now (plan .entry))) (now (list .entry)) ⌝ }
     ensures { λ _. ⌜ now (values .exit) ≡ valuesOf (ofPlanned (queryAnswer (jobOf (now (job .entry))) (length (now (plan .entry))) (length (now (list .entry))))) (now (values .entry)) ⌝ }
 {
-    tell(of_planned(loads::loads(job, tick, plan, list)), values)
+    tell_planned(loads::loads(job, tick, plan, list), values)
 }

@@ -12,7 +12,8 @@ use Rattle.ring.specs.Plan.{surplus}
 use Rattle.ring.proofs.Signed.{taken-off}
 use Rattle.hop.specs.Read.{loadIn, surplusIn, costIn, headOf, checkOf, beside, jobOf}
 use Rattle.hop.proofs.Passed.{went-on, Passed, passed, ring-accepted}
-use Rattle.hop.proofs.Reading.{Headed, headed, lengths, check-is}
+use Rattle.hop.specs.Lawful.{Headed}
+use Rattle.hop.proofs.Reading.{headed, lengths, check-is}
 
 -- a check's answer is the job's, whatever stands beside it
 answer-of : (s : List ℕ) (c : Check) → beside s c .answer ≡ c

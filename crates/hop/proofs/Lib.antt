@@ -14,3 +14,5 @@ pub mod ReadBack
 pub mod WriteBack
 pub mod OneAnswer
 pub mod RoundTrip
+pub mod Exactly
+pub mod Given

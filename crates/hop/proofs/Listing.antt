@@ -1,12 +1,14 @@
 -- What is known of a writer's lists that pass, and the ends of the writer. Assumes nothing.
 use mathlib.Core.Path.{_≡_, refl, sym, ap, _∙_}
+use mathlib.Core.Bool.{Bool, true, false}
 use mathlib.Core.List.{List, _++_}
 use Prim.Native.Nat.{ℕ, _≤_, _<_}
 use native.Mathlib.Omega.{arith}
-use lib.Dec.{eqb}
+use lib.Dec.{eqb, ltb}
 use lib.IntN.{ℤ}
 use lib.ListN.{length, drop}
-use borrow.Author.Tests.{lt-ltb, le-ltb, eqb-true}
+use borrow.Author.Tests.{lt-ltb, le-ltb, ltb-false, eq-eqb, eqb-true}
+use Rattle.ring.specs.Numbers.{pick}
 use Rattle.ring.specs.Boards.{Within}
 use Rattle.hop.specs.declared.Check.{Check}
 use Rattle.hop.specs.declared.Check.the-variants.{Ring, Refused}
@@ -17,7 +19,25 @@ use Rattle.hop.specs.Refusals.{unlike, shapeOf, ringCheck}
 use Rattle.hop.specs.Read.{jobLength}
 use Rattle.hop.specs.Write.{jobBytes, listsOf, roomOf, writtenOf, bufferBy, bufferOf}
 use Rattle.hop.proofs.First.{yes}
-use Rattle.hop.proofs.Passed.{went-on, shaped, passed}
+use Rattle.hop.proofs.Passed.{went-on, shaped, shape-ring, passed}
+
+-- a writer that wrote has passed its lists, and had room
+pub record Wrote (c : Check) (room len : ℕ) : Type 0 where
+  pub kind : ℕ
+  pub n : ℕ
+  pub ring : c ≡ Ring kind n
+  pub long : jobLength n ≡ len
+  pub fits : len ≤ room
+
+roomy : (t : Bool) (l len : ℕ) → pick t (Unwritten 13 0) (Bytes l) ≡ Bytes len → (t ≡ false) × (l ≡ len)
+roomy true l len e = let z : _≡_ {A = ℕ} 0 1 = cc in absurd (omega arith)
+roomy false l len e = (refl, cc)
+
+pub passes : (room len : ℕ) (c : Check) → roomOf room c ≡ Bytes len → Wrote c room len
+passes room len (Ring k n) e =
+    let r = roomy (ltb room (jobLength n)) (jobLength n) len e in
+    record { kind = k; n = n; ring = refl; long = r .1; fits = omega (arith, ltb-false room (jobLength n) (r .0), r .1) }
+passes room len (Refused a b) e = let z : _≡_ {A = ℕ} 0 1 = cc in absurd (omega arith)
 
 module _ (kind : ℕ) (loads : List ℕ) (surpluses : List ℤ) (costs : List ℕ) where
   pub record Listed (k n : ℕ) : Type 0 where
@@ -47,6 +67,11 @@ module _ (kind : ℕ) (loads : List ℕ) (surpluses : List ℤ) (costs : List �
         n-is = s .n-is ∙ p .n-is;
         check-is = (λ t. check (s .kind-is t) (s .n-is t)) ∙ same ∙ sym (λ t. Ring (s .kind-is t) (s .n-is t));
       }
+
+  -- lists of one length that pass
+  pub lists-ring : (n : ℕ) → length loads ≡ n → length surpluses ≡ n → length costs ≡ n → Within 1 3 kind → Within 2 128 n
+      → ringCheck kind n (each loads) (eachℤ surpluses) (each costs) ≡ Ring kind n → listsOf kind loads surpluses costs ≡ Ring kind n
+  lists-ring n l z c ks bs e = rw (l, shape-ring kind n ks bs, eq-eqb (length surpluses) n z, eq-eqb (length costs) n c) e
 
   module _ (buf : List ℕ) where
     -- the answer, and the buffer that goes by it

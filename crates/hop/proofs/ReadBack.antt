@@ -10,7 +10,6 @@ use lib.Signed.{mag}
 use mir.Syntax.{w16}
 use mir.Val.{toZ, ofZ, SFits}
 use mir.Facts.{toZ-ofZ, fits-ofZ}
-use borrow.Author.Tests.{le-ltb, eq-eqb}
 use Rattle.ring.specs.Lists.{joined}
 use Rattle.ring.specs.Boards.{Within}
 use Rattle.ring.specs.Bytes.{halfAt}
@@ -19,10 +18,12 @@ use Rattle.hop.specs.declared.Check.the-variants.{Ring}
 use Rattle.hop.specs.Refusals.{ringCheck}
 use Rattle.hop.specs.Read.{jobLength, loadIn, surplusIn, costIn, headOf, checkOf, holding, beside, jobOf}
 use Rattle.hop.specs.Write.{headBytes, boardBytes, jobBytes}
+use Rattle.hop.specs.Lawful.{Headed}
 use Rattle.hop.proofs.Pieces.{joined-long, joined-at}
 use Rattle.ring.proofs.Fill.{Below, fill-same}
 use Rattle.hop.proofs.Same.{check-same}
-use Rattle.hop.proofs.Passed.{shape-ring, passed}
+use Rattle.hop.proofs.Passed.{passed}
+use Rattle.hop.proofs.Reading.{head-is}
 use Rattle.hop.proofs.First.{goes}
 
 half-back : (x : ℕ) → x < 65536 → x / 256 % 256 * 256 + x % 256 ≡ x
@@ -36,10 +37,10 @@ small l a (pos m) hl ha e =
     omega arith
 small l a (negsuc m) hl ha e = let r : a ≡ l + suc m = cc in omega arith
 
-head-of : (kind n : ℕ) (rest : List ℕ) → Within 1 3 kind → Within 2 128 n → length rest ≡ 6 * n → headOf (headBytes kind n ++ rest) ≡ Ring kind n
+-- the head's bytes, and n boards of others, are headed as they say
+head-of : (kind n : ℕ) (rest : List ℕ) → Within 1 3 kind → Within 2 128 n → length rest ≡ 6 * n → Headed (headBytes kind n ++ rest) kind n
 head-of kind n rest ks bs e =
-    let long : length (headBytes kind n ++ rest) ≡ jobLength n = omega arith in
-    rw (le-ltb (length (headBytes kind n ++ rest)) 7 (omega arith), shape-ring kind n ks bs, eq-eqb (length (headBytes kind n ++ rest)) (jobLength n) long)
+    record { h = refl; o = refl; p = refl; version = refl; kind-is = refl; n-is = refl; kinds = ks; boards = bs; whole = omega arith }
 
 module _ (kind n : ℕ) (load : ℕ → ℕ) (surplus : ℕ → ℤ) (cost : ℕ → ℕ) where
   pub bytes-long : length (jobBytes kind n load surplus cost) ≡ jobLength n
@@ -76,7 +77,9 @@ module _ (kind n : ℕ) (load : ℕ → ℕ) (surplus : ℕ → ℤ) (cost : ℕ
 
     head-back : headOf (jobBytes kind n load surplus cost) ≡ Ring kind n
     unfolding jobBytes
-    head-back = head-of kind n (joined (boardBytes load surplus cost) n) ks bs (joined-long (boardBytes load surplus cost) (λ i. refl) n)
+    head-back =
+        let rest = joined (boardBytes load surplus cost) n in
+        head-is (headBytes kind n ++ rest) kind n (head-of kind n rest ks bs (joined-long (boardBytes load surplus cost) (λ i. refl) n))
 
     pub job-back : jobOf (jobBytes kind n load surplus cost) ≡ holding kind n load surplus cost
     unfolding jobOf checkOf

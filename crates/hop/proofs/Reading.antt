@@ -6,8 +6,7 @@ use native.Mathlib.Omega.{arith}
 use lib.Dec.{ltb, eqb}
 use lib.IntN.{pos}
 use lib.ListN.{length, getD, replicate}
-use borrow.Author.Tests.{eqb-true}
-use Rattle.ring.specs.Boards.{Within}
+use borrow.Author.Tests.{le-ltb, eq-eqb, eqb-true}
 use Rattle.ring.specs.Bytes.{halfAt}
 use Rattle.ring.proofs.Fill.{Below, fill-at, fill-length}
 use Rattle.hop.specs.declared.Check.{Check}
@@ -16,24 +15,14 @@ use Rattle.hop.specs.declared.Job.{Job}
 use Rattle.ring.specs.Lists.{each, eachℤ}
 use Rattle.hop.specs.Refusals.{unlike, shapeOf, ringCheck}
 use Rattle.hop.specs.Read.{jobLength, loadIn, surplusIn, costIn, sizesOf, markOf, headOf, checkOf, bare, beside, jobOf}
+use Rattle.hop.specs.Lawful.{Headed}
 use Rattle.hop.proofs.First.{no, yes, stands, goes}
 use Rattle.hop.proofs.Same.{check-same}
-use Rattle.hop.proofs.Passed.{went-on, shaped, passed}
+use Rattle.hop.proofs.Passed.{went-on, shaped, shape-ring, passed}
 
 module _ (s : List ℕ) where
-  -- what the first seven bytes of a ring say
-  pub record Headed (k n : ℕ) : Type 0 where
-    pub h : getD s 0 0 ≡ 72
-    pub o : getD s 1 0 ≡ 79
-    pub p : getD s 2 0 ≡ 80
-    pub version : halfAt s 3 ≡ 1
-    pub kind-is : getD s 5 0 ≡ k
-    pub n-is : getD s 6 0 ≡ n
-    pub kinds : Within 1 3 k
-    pub boards : Within 2 128 n
-    pub whole : length s ≡ jobLength n
-
-  pub headed : (k n : ℕ) → headOf s ≡ Ring k n → Headed k n
+  -- no refusal of 1 to 6 is given exactly where the first seven bytes and the length say a ring
+  pub headed : (k n : ℕ) → headOf s ≡ Ring k n → Headed s k n
   headed k n e =
       let K = getD s 5 0 in
       let N = getD s 6 0 in
@@ -60,6 +49,10 @@ module _ (s : List ℕ) where
         boards = rw j at (f .boards);
         whole = eqb-true (length s) (jobLength b) (e6 .0) ∙ ap jobLength l;
       }
+
+  pub head-is : (k n : ℕ) → Headed s k n → headOf s ≡ Ring k n
+  head-is k n h =
+      rw (le-ltb (length s) 7 (omega (arith, h .whole)), eq-eqb (getD s 0 0) 72 (h .h), eq-eqb (getD s 1 0) 79 (h .o), eq-eqb (getD s 2 0) 80 (h .p), eq-eqb (halfAt s 3) 1 (h .version), h .kind-is, h .n-is, shape-ring k n (h .kinds) (h .boards), eq-eqb (length s) (jobLength n) (h .whole))
 
   -- a refusal has zeros beside it
   pub refused : (c : Check) (a b : ℕ) → c ≡ checkOf s → c ≡ Refused a b → bare c ≡ jobOf s

@@ -12,8 +12,8 @@ use Rattle.ring.specs.Lists.{joined}
 use Rattle.ring.specs.Bytes.{halfAt, halfBytes}
 use Rattle.hop.specs.Read.{jobLength, loadIn, surplusIn, costIn}
 use Rattle.hop.specs.Write.{headBytes, boardBytes, jobBytes}
+use Rattle.hop.specs.Lawful.{Headed}
 use Rattle.ring.proofs.Joined.{first-of}
-use Rattle.hop.proofs.Reading.{Headed}
 
 two : (a b : ℕ) → a < 256 → b < 256 → halfBytes (a * 256 + b) ≡ a ∷ b ∷ []
 two a b ha hb =

@@ -1,3 +1,5 @@
+pub mod Answers
 pub mod Refusals
 pub mod Read
 pub mod Write
+pub mod Lawful

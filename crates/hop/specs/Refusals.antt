@@ -3,19 +3,10 @@ use Prim.Native.Nat.{ℕ, zero, suc}
 use lib.Dec.{eqb}
 use lib.IntN.{ℤ, natAbs}
 use Rattle.ring.specs.Numbers.{pick, sumℤ}
+use Rattle.ring.specs.Boards.{lastKind, fewestBoards, mostBoards}
 use Rattle.ring.specs.Limits.{outside, boardOf, faultOf}
 use Rattle.hop.specs.declared.Check.{Check}
 use Rattle.hop.specs.declared.Check.the-variants.{Ring, Refused}
-
--- document 01's number of a check's answer, 0 where it is no refusal
-abbrev pub numberOf : Check → ℕ
-numberOf (Ring kind n) = 0
-numberOf (Refused number board) = number
-
--- its board, 0 where it is no refusal
-abbrev pub placeOf : Check → ℕ
-placeOf (Ring kind n) = 0
-placeOf (Refused number board) = board
 
 -- a where the two differ, else b
 abbrev pub unlike : {A : Type 0} → ℕ → ℕ → A → A → A
@@ -28,7 +19,7 @@ goesOn (Refused number board) next = Refused number board
 
 -- 4 where the kind is not 1, 2 or 3; 5 where n is not 2 to 128; or the ring
 abbrev pub shapeOf : ℕ → ℕ → Check
-shapeOf kind n = outside 1 3 kind (Refused 4 0) (outside 2 128 n (Refused 5 0) (Ring kind n))
+shapeOf kind n = outside 1 lastKind kind (Refused 4 0) (outside fewestBoards mostBoards n (Refused 5 0) (Ring kind n))
 
 -- refused by the first board below n that has a fault, else next
 unfoldable pub faultless : (ℕ → ℕ) → ℕ → Check → Check

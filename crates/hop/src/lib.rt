@@ -1,6 +1,6 @@
 // The job reader and writer: a job's bytes, the check of a ring's numbers, and what both answer.
 ghost use mathlib.Core.Path.{_≡_};
-ghost use Rattle.hop.specs.Refusals.{numberOf, placeOf};
+ghost use Rattle.hop.specs.Answers.{numberIn, boardIn, ofCheck};
 ghost use Rattle.hop.specs.Read.{jobLength};
 
 mod bits;
@@ -11,6 +11,16 @@ mod writer;
 pub use reader::read;
 pub use writer::write;
 
+// The kinds of ring.
+pub const FIRST_KIND: u8 = 1;
+
+pub const LAST_KIND: u8 = 3;
+
+// How few boards a ring has, and how many.
+pub const FEWEST_BOARDS: usize = 2;
+
+pub const MOST_BOARDS: usize = 128;
+
 // What a check answers: a ring of a kind with n boards, or the refusal's number and board.
 pub enum Check {
     Ring { kind: u8, n: u8 },
@@ -19,7 +29,7 @@ pub enum Check {
 
 // The refusal's number, and 0 for a ring.
 pub fn number(check: Check) -> u8
-    ensures { λ r. ⌜ r ≡ numberOf check ⌝ }
+    ensures { λ r. ⌜ r ≡ numberIn (ofCheck check) ⌝ }
 {
     match check {
         Check::Ring { .. } => 0,
@@ -29,7 +39,7 @@ pub fn number(check: Check) -> u8
 
 // The refusal's board, and 0 for a ring.
 pub fn board(check: Check) -> u8
-    ensures { λ r. ⌜ r ≡ placeOf check ⌝ }
+    ensures { λ r. ⌜ r ≡ boardIn (ofCheck check) ⌝ }
 {
     match check {
         Check::Ring { .. } => 0,
@@ -40,9 +50,9 @@ pub fn board(check: Check) -> u8
 // A job: the answer of its check, and the boards' numbers beside it; zeros where it is refused.
 pub struct Job {
     pub answer: Check,
-    pub loads: [u16; 128],
-    pub surpluses: [i16; 128],
-    pub costs: [u16; 128],
+    pub loads: [u16; MOST_BOARDS],
+    pub surpluses: [i16; MOST_BOARDS],
+    pub costs: [u16; MOST_BOARDS],
 }
 
 // What the job writer answers: how many bytes it wrote, or the refusal's number and board.

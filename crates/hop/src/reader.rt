@@ -7,6 +7,7 @@ ghost use Rattle.hop.specs.Refusals.{ringCheck};
 ghost use Rattle.hop.specs.Read.{jobLength, sizesOf, markOf, headOf, bare, beside, jobOf};
 use crate::Check;
 use crate::Job;
+use crate::MOST_BOARDS;
 use crate::bits::half;
 use crate::bits::signed;
 use crate::job_length;
@@ -96,9 +97,9 @@ fn refused(answer: Check) -> Job
 {
     Job {
         answer,
-        loads: [0; 128],
-        surpluses: [0; 128],
-        costs: [0; 128],
+        loads: [0; MOST_BOARDS],
+        surpluses: [0; MOST_BOARDS],
+        costs: [0; MOST_BOARDS],
     }
 }
 
@@ -109,9 +110,9 @@ fn filled(s: &[u8], kind: u8, n: u8) -> Job
 {
     let mut job = Job {
         answer: Check::Ring { kind, n },
-        loads: [0; 128],
-        surpluses: [0; 128],
-        costs: [0; 128],
+        loads: [0; MOST_BOARDS],
+        surpluses: [0; MOST_BOARDS],
+        costs: [0; MOST_BOARDS],
     };
     for i in 0..n {
         let k = i as usize;

@@ -6,30 +6,34 @@ ghost use Rattle.ring.specs.Numbers.{sumℤ};
 ghost use Rattle.ring.specs.Lists.{each, eachℤ};
 ghost use Rattle.hop.specs.Refusals.{shapeOf, ringCheck, alikeOf, balancedOf};
 use crate::Check;
+use crate::FEWEST_BOARDS;
+use crate::FIRST_KIND;
+use crate::LAST_KIND;
+use crate::MOST_BOARDS;
 
 // Refusals 4 and 5, or the kind and n.
 pub(crate) fn shape(kind: u8, n: usize) -> Check
     ensures { λ r. ⌜ r ≡ shapeOf kind n ⌝ }
 {
-    if kind < 1 {
+    if kind < FIRST_KIND {
         return Check::Refused {
             number: 4,
             board: 0,
         };
     }
-    if 3 < kind {
+    if LAST_KIND < kind {
         return Check::Refused {
             number: 4,
             board: 0,
         };
     }
-    if n < 2 {
+    if n < FEWEST_BOARDS {
         return Check::Refused {
             number: 5,
             board: 0,
         };
     }
-    if 128 < n {
+    if MOST_BOARDS < n {
         return Check::Refused {
             number: 5,
             board: 0,

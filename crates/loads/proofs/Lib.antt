@@ -3,3 +3,4 @@ pub mod Records
 pub mod Asked
 pub mod Told
 pub mod OneAnswer
+pub mod Given

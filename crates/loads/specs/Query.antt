@@ -5,6 +5,7 @@ use lib.Dec.{ltb}
 use lib.ListN.{length}
 use Rattle.ring.specs.Numbers.{pick}
 use Rattle.ring.specs.Lists.{fill}
+use Rattle.ring.specs.Boards.{Within}
 use Rattle.ring.specs.Schedule.{loadAt}
 use Rattle.ring.specs.Plan.{offset, plan}
 use Rattle.hop.specs.declared.Check.{Check}
@@ -23,6 +24,10 @@ boardsOf (Unread number board) = 0
 abbrev pub lacking : Planned → Planned
 lacking (Plan finish moves tight) = Refused 14 0
 lacking (Refused number board) = Refused number board
+
+-- the query's numbers: the planner's, and 14
+abbrev pub QueryGives : ℕ → Type 0
+QueryGives number = Within 1 14 number
 
 -- the query's answer, for so many bytes of room and so many places: the planner's, or 14 where the places are fewer than n
 unfoldable pub queryAnswer : Job → ℕ → ℕ → Planned

@@ -18,7 +18,7 @@ use Rattle.ring.proofs.Bounds.{moves-most}
 use Rattle.ring.proofs.Demand3.{plan-is-valid, finish-is, none-sooner, moves-is, in-order, ends-with, finish-fits}
 use Rattle.hop.specs.declared.Check.the-variants.{Ring as Read, Refused as Unread}
 use Rattle.hop.specs.declared.Job.{Job}
-use Rattle.hop.specs.Refusals.{numberOf, placeOf}
+use Rattle.hop.specs.Answers.{numberIn, boardIn, ofCheck}
 use Rattle.hop.specs.Read.{jobOf}
 use Rattle.hop.proofs.Accepted.{job-accepted, after-is}
 use Rattle.planner.specs.declared.Planned.{Planned}
@@ -120,4 +120,4 @@ module _ (s xs : List ℕ) where
   -- "A refused job stops the planner at once with that number."
   pub stops : (number board : ℕ) → jobOf s .answer ≡ Unread number board → (planAnswer (jobOf s) (length xs) ≡ Refused number board) × (planMemory (jobOf s) xs ≡ xs)
   stops number board read =
-      (sym (unread-answer s (jobOf s) refl number board read (length xs)) ∙ (λ t. Refused (numberOf (read t)) (placeOf (read t))), sym (unread-memory s (jobOf s) refl number board read xs))
+      (sym (unread-answer s (jobOf s) refl number board read (length xs)) ∙ (λ t. Refused (numberIn (ofCheck (read t))) (boardIn (ofCheck (read t)))), sym (unread-memory s (jobOf s) refl number board read xs))

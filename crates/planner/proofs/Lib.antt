@@ -17,4 +17,5 @@ pub mod Answers
 pub mod Reading
 pub mod Crossing
 pub mod Closing
+pub mod Given
 pub mod OneAnswer

@@ -6,7 +6,7 @@ use native.Mathlib.Omega.{arith}
 use lib.ListN.{length}
 use Rattle.hop.specs.declared.Check.the-variants.{Ring as Read, Refused as Unread}
 use Rattle.hop.specs.declared.Job.{Job}
-use Rattle.hop.specs.Refusals.{numberOf, placeOf}
+use Rattle.hop.specs.Answers.{numberIn, boardIn, ofCheck}
 use Rattle.hop.specs.Read.{jobOf}
 use Rattle.hop.proofs.Accepted.{job-accepted, after-is, arrays}
 use Rattle.planner.specs.declared.Planned.{Planned}
@@ -17,10 +17,10 @@ use Rattle.planner.specs.Outline.{Lent}
 
 module _ (s : List ℕ) (job : Job) (is : job ≡ jobOf s) where
   module _ (number board : ℕ) (told : job .answer ≡ Unread number board) where
-    pub unread-answer : (room : ℕ) → Refused (numberOf (job .answer)) (placeOf (job .answer)) ≡ planAnswer (jobOf s) room
+    pub unread-answer : (room : ℕ) → Refused (numberIn (ofCheck (job .answer))) (boardIn (ofCheck (job .answer))) ≡ planAnswer (jobOf s) room
     unfolding planAnswer
     unread-answer room =
-        (λ t. Refused (numberOf (told t)) (placeOf (told t))) ∙ sym (ap (answerBy job room) told) ∙ ap (λ (j : Job). planAnswer j room) is
+        (λ t. Refused (numberIn (ofCheck (told t))) (boardIn (ofCheck (told t)))) ∙ sym (ap (answerBy job room) told) ∙ ap (λ (j : Job). planAnswer j room) is
 
     pub unread-memory : (xs : List ℕ) → xs ≡ planMemory (jobOf s) xs
     unfolding planMemory

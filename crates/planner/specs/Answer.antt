@@ -1,17 +1,27 @@
 -- What the planner answers, and what it leaves in the lent buffer, for every job that the reader answers.
-use mathlib.Core.List.{List, _++_}
+use mathlib.Core.List.{List, [], _∷_, _++_}
 use Prim.Native.Nat.{ℕ}
 use lib.Dec.{ltb}
 use lib.ListN.{length, drop}
 use Rattle.ring.specs.Numbers.{pick}
-use Rattle.ring.specs.Boards.{Ring, ringIn}
+use Rattle.ring.specs.Boards.{Ring, ringIn, Within}
 use Rattle.ring.specs.Plan.{offset, finishOf, moves, tight}
 use Rattle.hop.specs.declared.Check.{Check}
 use Rattle.hop.specs.declared.Check.the-variants.{Ring as Read, Refused as Unread}
 use Rattle.hop.specs.declared.Job.{Job}
+use Rattle.hop.specs.Answers.{Answer, success, refusal}
 use Rattle.planner.specs.declared.Planned.{Planned}
 use Rattle.planner.specs.declared.Planned.the-variants.{Plan, Refused}
 use Rattle.planner.specs.PlanBytes.{recordPlace, planBytes, planLength}
+
+-- what the planner's answer says: finish, moves and tight link, or the refusal
+abbrev pub ofPlanned : Planned → Answer
+ofPlanned (Plan finish moves tight) = success (finish ∷ moves ∷ tight ∷ [])
+ofPlanned (Refused number board) = refusal number board
+
+-- the planner's numbers: the reader's, 12 and 13
+abbrev pub PlannerGives : ℕ → Type 0
+PlannerGives number = Within 1 13 number
 
 -- for a plan's numbers and so many bytes of room: 12 where the finish is above 4,294,967,295, 13 where the plan is longer than the room, else
 -- finish, moves and tight link

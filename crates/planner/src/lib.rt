@@ -2,7 +2,7 @@
 ghost use mathlib.Core.Path.{_≡_};
 ghost use lib.ListN.{length};
 ghost use Rattle.ring.specs.Boards.{ringIn};
-ghost use Rattle.hop.specs.Refusals.{numberOf, placeOf};
+ghost use Rattle.hop.specs.Answers.{numberIn, boardIn, ofCheck};
 ghost use Rattle.hop.specs.Read.{jobOf};
 ghost use Rattle.planner.specs.Answer.{weighedOf, answerFor, memoryFor, planAnswer, planMemory};
 ghost use Rattle.planner.specs.Outline.{Lent};
@@ -31,7 +31,7 @@ pub struct Traffic {
 
 // The refusal of a check that is no ring.
 fn stopped(check: Check) -> Planned
-    ensures { λ r. ⌜ r ≡ Planned.Refused (numberOf check) (placeOf check) ⌝ }
+    ensures { λ r. ⌜ r ≡ Planned.Refused (numberIn (ofCheck check)) (boardIn (ofCheck check)) ⌝ }
 {
     Planned::Refused {
         number: hop::number(check),

@@ -5,8 +5,8 @@ use mathlib.Core.List.{List}
 use Prim.Native.Nat.{ℕ, zero, suc, _≤_, _<_}
 use native.Mathlib.Omega.{arith}
 use lib.Dec.{eqb, ltb}
-use lib.ListN.{length, getD, set, length-set}
-use lib.Seq.{getD-set-same, getD-set-other, set-set, set-comm, set-getD}
+use lib.ListN.{length, getD, set, take, length-set}
+use lib.Seq.{getD-set-same, getD-set-other, set-set, set-comm, set-getD, length-take-le, getD-take, ext-getD}
 use borrow.Author.Tests.{ltb-true, ltb-false, eqb-true, eqb-false}
 use Rattle.ring.specs.Lists.{fill}
 
@@ -26,6 +26,14 @@ module _ {A : Type 0} (g : ℕ → A) (xs : List A) (d : A) where
       by r false p =
           let q : i ≡ k = omega (arith, ltb-false i k p) in
           rw q (getD-set-same (fill g k xs) k (g k) d (omega (arith, fill-length k)))
+
+-- the first places, filled from a list, hold that list
+pub fill-front : {A : Type 0} (ys : List A) (d : A) (xs : List A) (n : ℕ) → length ys ≡ n → n ≤ length xs → take n (fill (λ i. getD ys i d) n xs) ≡ ys
+fill-front ys d xs n long fits =
+    let g : ℕ → _ = λ i. getD ys i d in
+    let front : length (take n (fill g n xs)) ≡ n = length-take-le n (fill g n xs) (omega (arith, fill-length g xs d n)) in
+    ext-getD d (take n (fill g n xs)) ys (front ∙ sym long)
+    (λ i h. getD-take n (fill g n xs) i d (omega (arith, front)) ∙ fill-at g xs d n i (omega (arith, front)) fits)
 
 -- two functions agree below n
 pub record Below {A : Type 0} (f g : ℕ → A) (n : ℕ) : Type 0 where

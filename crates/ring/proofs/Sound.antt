@@ -1,12 +1,12 @@
--- What is known of a sound board: its three numbers, and that each is within its limits. Assumes nothing.
-use mathlib.Core.Path.{_≡_, refl, sym, ap, _∙_}
+-- A board has no fault exactly where each of its three numbers is within its limits. Assumes nothing.
+use mathlib.Core.Path.{_≡_, refl, sym, ap, subst, _∙_}
 use mathlib.Core.Bool.{Bool, true, false}
 use Prim.Native.Nat.{ℕ, _≤_}
 use native.Mathlib.Omega.{arith}
-use lib.Dec.{ltb}
+use lib.Dec.{ltb, leb→le, le→leb}
 use lib.IntN.{ℤ, pos, negsuc, _-ℤ_, natAbs}
-use lib.Signed.{ltZ}
-use borrow.Author.Tests.{ltb-false}
+use lib.Signed.{ltZ, _≤ℤ_, leZ-yes}
+use borrow.Author.Tests.{ltb-false, le-ltb}
 use Rattle.ring.specs.declared.Made.{Made}
 use Rattle.ring.specs.declared.Made.the-variants.{Sound, Load, After, Cost}
 use Rattle.ring.specs.Numbers.{pick}
@@ -52,3 +52,23 @@ sane l z c e =
       cost-least = ltb-false c 1 (r .0);
       cost-most = ltb-false 8000 c (r .1);
     }
+
+-- the load after, as the signed number that it is
+pub after-within : {l : ℕ} {z : ℤ} {c : ℕ} → Sane l z c → (pos 1 ≤ℤ (pos l -ℤ z)) × ((pos l -ℤ z) ≤ℤ pos 4095)
+after-within {l} {z} s =
+    let a = natAbs (pos l -ℤ z) in
+    subst (λ (x : ℤ). (pos 1 ≤ℤ x) × (x ≤ℤ pos 4095)) (s .after-is) (leZ-yes (le→leb 1 a (s .after-least)), leZ-yes (le→leb a 4095 (s .after-most)))
+
+-- a number that is not above another is not tested to be
+not-above : (a b : ℤ) → a ≤ℤ b → ltZ b a ≡ false
+not-above (pos a) (pos b) h = le-ltb b a (leb→le a b (h .le))
+not-above (pos a) (negsuc b) h = absurd (h .le)
+not-above (negsuc a) (pos b) h = refl
+not-above (negsuc a) (negsuc b) h = le-ltb a b (leb→le b a (h .le))
+
+-- a board with each number within its limits has no fault
+pub sound : (l : ℕ) (z : ℤ) (c : ℕ) → (1 ≤ l) × (l ≤ 4095) → (pos 1 ≤ℤ (pos l -ℤ z)) × ((pos l -ℤ z) ≤ℤ pos 4095) → (1 ≤ c) × (c ≤ 8000)
+    → faultOf (boardOf l z c) ≡ 0
+unfolding boardOf
+sound l z c load after cost =
+    rw (le-ltb l 1 (load .0), le-ltb 4095 l (load .1), not-above (pos 1) (pos l -ℤ z) (after .0), not-above (pos l -ℤ z) (pos 4095) (after .1), le-ltb c 1 (cost .0), le-ltb 8000 c (cost .1))

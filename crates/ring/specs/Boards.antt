@@ -35,6 +35,17 @@ abbrev pub prev : ℕ → ℕ → ℕ
 prev n zero = n - 1
 prev n (suc i) = i
 
+-- the kinds of ring are 1 to 3
+abbrev pub lastKind : ℕ
+lastKind = 3
+
+-- a ring has 2 to 128 boards
+abbrev pub fewestBoards : ℕ
+fewestBoards = 2
+
+abbrev pub mostBoards : ℕ
+mostBoards = 128
+
 -- the limits: a load, and a load after, is 1 to 4,095
 abbrev pub mostLoad : ℕ
 mostLoad = 4095
@@ -57,8 +68,8 @@ OneCost kind = (kind ≡ 1) ⊎ (kind ≡ 3)
 
 -- what a ring is that refusals 4 to 11 let through; `after` has no sign, so a negative load − surplus is for refusal 8 alone to see
 pub record Accepted (r : Ring) : Type 0 where
-  pub kinds : Within 1 3 (r .kind)
-  pub boards : Within 2 128 (r .n)
+  pub kinds : Within 1 lastKind (r .kind)
+  pub boards : Within fewestBoards mostBoards (r .n)
   pub loads : (i : ℕ) → i < r .n → Within 1 mostLoad (r .load i)
   pub afters : (i : ℕ) → i < r .n → Within 1 mostLoad (r .after i)
   pub costs : (i : ℕ) → i < r .n → Within 1 mostCost (r .cost i)

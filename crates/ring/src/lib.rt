@@ -15,11 +15,11 @@ pub fn link_time(cost: u16, items: Items) -> Ticks
     Ticks((cost as u64) * (items.0 as u64))
 }
 
-// A board's numbers; `new` makes only boards within the limits. Its link is the one to the next board.
+// A board's numbers, which only `new` puts together, within the limits. Its link is the one to the next board.
 pub struct Board {
-    pub load: u16,
-    pub surplus: i16,
-    pub cost: u16,
+    load: u16,
+    surplus: i16,
+    cost: u16,
 }
 
 // A board, or which of its numbers is outside its limits.
