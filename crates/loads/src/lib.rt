@@ -12,13 +12,14 @@ ghost use Rattle.planner.specs.PlanBytes.{recordPlace, recordsIn};
 ghost use Rattle.loads.specs.Counts.{linksIn, countsOf, leftWith, Covered};
 ghost use Rattle.loads.specs.Query.{lacking, queryAnswer, queryPlan, queryLoads};
 use hop::Check;
+use hop::MOST_BOARDS;
 use planner::Planned;
 use ring::Ticks;
 
 // What each board has received and sent by a tick.
 struct Counts {
-    received: [u32; 128],
-    sent: [u32; 128],
+    received: [u32; MOST_BOARDS],
+    sent: [u32; MOST_BOARDS],
 }
 
 // One where the test holds, else none.
@@ -72,8 +73,8 @@ fn counts_by(plan: &[u8], moves: u32, n: usize, costs: &[u16], tick: u32) -> Cou
     requires { ⌜ ((k : ℕ) → k < moves → getD (now plan) (recordPlace k) 0 < n) ⌝ }
     ensures { λ r. ⌜ r ≡ countsOf (linksIn n (now (costs .entry))) (recordsIn (now (plan .entry)) moves) tick ⌝ }
 {
-    let mut received = [0u32; 128];
-    let mut sent = [0u32; 128];
+    let mut received = [0u32; MOST_BOARDS];
+    let mut sent = [0u32; MOST_BOARDS];
     for k in 0..moves {
         let at = 15 + 6 * (k as usize);
         let link = plan[at] as usize;

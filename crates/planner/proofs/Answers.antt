@@ -48,8 +48,8 @@ through r room p f m k a b =
 
 module _ (kind n : ℕ) (loads : List ℕ) (surpluses : List ℤ) (costs : List ℕ) (lent : Lent kind n loads surpluses costs) (o : Outline) (is : o ≡ outlineOf (ringIn kind n loads surpluses costs)) where
   pub answer-is : (room : ℕ)
-      → weighedOf (o .finish .0) (o .moves) (o .tight) room ≡ answerFor (ringIn kind n loads surpluses costs) room
-  answer-is room t = weighedOf (is t .finish .0) (is t .moves) (is t .tight) room
+      → weighedOf (o .finish .0) (o .moves .0) (o .tight) room ≡ answerFor (ringIn kind n loads surpluses costs) room
+  answer-is room t = weighedOf (is t .finish .0) (is t .moves .0) (is t .tight) room
 
   -- and with the levels, in a list that had room for them
   module _ (was levels : List ℕ) (room : n ≤ length was) (put : levels ≡ fill (level (ringIn kind n loads surpluses costs)) n was) where
@@ -57,10 +57,10 @@ module _ (kind n : ℕ) (loads : List ℕ) (surpluses : List ℤ) (costs : List 
     level-is = level-at (ringIn kind n loads surpluses costs) (lent .accepted) was levels room put
 
     -- the numbers are those that the links are written from
-    pub linked : finishOf (ringIn kind n loads surpluses costs) (offset (ringIn kind n loads surpluses costs)) < 4294967296 → Linked kind n loads costs levels (o .offset) (o .rounds)
+    pub linked : finishOf (ringIn kind n loads surpluses costs) (offset (ringIn kind n loads surpluses costs)) < 4294967296 → Linked kind n loads costs levels (o .offset) (o .rounds .0)
     linked soon =
         let r = ringIn kind n loads surpluses costs in
-        subst (λ (p : Outline). Linked kind n loads costs levels (p .offset) (p .rounds)) (sym is)
+        subst (λ (p : Outline). Linked kind n loads costs levels (p .offset) (p .rounds .0)) (sym is)
         (links-are kind n loads surpluses costs (offset r) levels level-is (lent .accepted) (fits r (lent .accepted)) soon (lent .loads-long) (lent .costs-long) (levels-long r (lent .accepted) was levels room put))
 
     items : sum (carriesIn levels (o .offset)) n ≡ moves (ringIn kind n loads surpluses costs) (offset (ringIn kind n loads surpluses costs))
@@ -73,12 +73,12 @@ module _ (kind n : ℕ) (loads : List ℕ) (surpluses : List ℤ) (costs : List 
 
     -- the head and the links together are the plan
     pub laid-out : (f m : ℕ) (xs ys zs : List ℕ) → f ≡ finishOf (ringIn kind n loads surpluses costs) (offset (ringIn kind n loads surpluses costs)) → m ≡ moves (ringIn kind n loads surpluses costs) (offset (ringIn kind n loads surpluses costs)) → ys ≡ planHead kind n f m ++ drop 15 xs
-        → zs ≡ linksAfter kind n loads costs levels (o .offset) (o .rounds) ys
+        → zs ≡ linksAfter kind n loads costs levels (o .offset) (o .rounds .0) ys
         → zs ≡ planBytes (ringIn kind n loads surpluses costs) ++ drop (planLength (ringIn kind n loads surpluses costs)) xs
     laid-out f m xs ys zs ef em head wrote =
         let r = ringIn kind n loads surpluses costs in
-        let pieces : joined (λ i. pieceBy kind n loads costs (getD levels i 0) (o .offset) (o .rounds) i) n ≡ recordsOf (plan r (offset r)) =
-        (λ t. joined (λ i. pieceBy kind n loads costs (getD levels i 0) (is t .offset) (is t .rounds) i) n) ∙ pieces-are kind n loads surpluses costs (offset r) levels level-is in
+        let pieces : joined (λ i. pieceBy kind n loads costs (getD levels i 0) (o .offset) (o .rounds .0) i) n ≡ recordsOf (plan r (offset r)) =
+        (λ t. joined (λ i. pieceBy kind n loads costs (getD levels i 0) (is t .offset) (is t .rounds .0) i) n) ∙ pieces-are kind n loads surpluses costs (offset r) levels level-is in
         wrote
         ∙ (λ t. (take 15 ys ++ pieces t) ++ drop (15 + 6 * items t) ys)
         ∙ past-head (planHead kind n f m) ys xs (recordsOf (plan r (offset r))) 15 (6 * moves r (offset r)) (head-long kind n f m) head

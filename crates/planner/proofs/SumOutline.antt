@@ -61,9 +61,9 @@ module _ (r : Ring) (ok : Accepted r) (was xs : List ℕ) (room : r .n ≤ lengt
 
         pub whole : (costs : List ℕ) → ((i : ℕ) → i < r .n → getD costs i 0 ≡ r .cost i) → (u : Tally) → u ≡ tallyOf (r .n) xs o costs
             → (f : Ticks) → f .0 ≡ pick (eqb (r .kind) 3) (turns * r .cost 0) (u .slowest .0)
-            → _≡_ {A = Outline} (record { offset = o; rounds = turns; moves = u .moves; tight = u .tight; finish = f }) (outlineOf r)
+            → _≡_ {A = Outline} (record { offset = o; rounds = record { 0 = turns }; moves = u .moves; tight = u .tight; finish = f }) (outlineOf r)
         unfolding finishOf
         whole costs cost u tally f finish =
             let v = tally ∙ ap (λ (x : ℕ). tallyOf (r .n) xs x costs) offset-is ∙ tally-is r (offset r) (omega arith) xs level-at costs cost in
             let e = finish ∙ (λ t. pick (eqb (r .kind) 3) (rounds-is t * r .cost 0) (v t .slowest .0)) in
-            λ t. record { offset = offset-is t; rounds = rounds-is t; moves = v t .moves; tight = v t .tight; finish = record { 0 = e t } }
+            λ t. record { offset = offset-is t; rounds = record { 0 = rounds-is t }; moves = v t .moves; tight = v t .tight; finish = record { 0 = e t } }

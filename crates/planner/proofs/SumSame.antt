@@ -40,9 +40,9 @@ module _ (r : Ring) (o : ℕ) (some : 1 ≤ r .n) (xs : List ℕ) (is : (i : ℕ
   items-are = sum-eq (carriesIn xs o) (carries r o) (r .n) carries-is
 
   pub tally-is : (costs : List ℕ) → ((i : ℕ) → i < r .n → getD costs i 0 ≡ r .cost i)
-      → _≡_ {A = Tally} (tallyOf (r .n) xs o costs) (record { moves = moves r o; tight = tight r o; slowest = record { 0 = greatest (λ i. carries r o i * r .cost i) (r .n - 1) } })
+      → _≡_ {A = Tally} (tallyOf (r .n) xs o costs) (record { moves = record { 0 = moves r o }; tight = tight r o; slowest = record { 0 = greatest (λ i. carries r o i * r .cost i) (r .n - 1) } })
   unfolding tight
   tally-is costs cost =
       let p = same (carriesIn xs o) (carries r o) (r .n - 1) (λ i h. carries-is i (omega arith)) in
       let q = same (λ i. carriesIn xs o i * getD costs i 0) (λ i. carries r o i * r .cost i) (r .n - 1) (λ i h t. carries-is i (omega arith) t * cost i (omega arith) t) in
-      λ t. record { moves = items-are t; tight = p .top t; slowest = record { 0 = q .high t } }
+      λ t. record { moves = record { 0 = items-are t }; tight = p .top t; slowest = record { 0 = q .high t } }

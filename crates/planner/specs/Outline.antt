@@ -51,7 +51,7 @@ carriesIn levels offset i = between (each levels i) offset
 abbrev pub tallyOf : ℕ → List ℕ → ℕ → List ℕ → Tally
 tallyOf n levels offset costs =
     record {
-      moves = sum (carriesIn levels offset) n;
+      moves = record { 0 = sum (carriesIn levels offset) n };
       tight = peak (carriesIn levels offset) (n - 1);
       slowest = record { 0 = greatest (λ i. carriesIn levels offset i * each costs i) (n - 1) };
     }
@@ -72,8 +72,8 @@ abbrev pub outlineOf : Ring → Outline
 outlineOf r =
     record {
       offset = offset r;
-      rounds = rounds r;
-      moves = moves r (offset r);
+      rounds = record { 0 = rounds r };
+      moves = record { 0 = moves r (offset r) };
       tight = tight r (offset r);
       finish = record { 0 = finishOf r (offset r) };
     }

@@ -10,6 +10,7 @@ use crate::Traffic;
 use crate::runs::link_before;
 use crate::sums::outline_of;
 use hop::Check;
+use hop::MOST_BOARDS;
 
 // How much a is more than b.
 fn beyond(a: u32, b: u32) -> u32
@@ -23,8 +24,8 @@ fn by_board(n: usize, levels: &[u32], offset: u32) -> Traffic
     requires { ⌜ (n ≤ 128) × (n ≤ length (now levels)) × ((i : ℕ) → i < n → carriesIn (now levels) offset i ≤ 128 * mostLoad) ⌝ }
     ensures { λ r. ⌜ r ≡ crossings n (now (levels .entry)) offset n ⌝ }
 {
-    let mut sends = [0u32; 128];
-    let mut receives = [0u32; 128];
+    let mut sends = [0u32; MOST_BOARDS];
+    let mut receives = [0u32; MOST_BOARDS];
     for i in 0..n {
         let here = levels[i];
         let before = levels[link_before(i, n)];
@@ -45,7 +46,7 @@ fn traffic_ring<'a>(
     requires { ⌜ Lent kind n (now loads) (now surpluses) (now costs) ⌝ }
     ensures { λ r. ⌜ r ≡ trafficIn (ringIn kind n (now (loads .entry)) (now (surpluses .entry)) (now (costs .entry))) ⌝ }
 {
-    let mut levels = [0u32; 128];
+    let mut levels = [0u32; MOST_BOARDS];
     let o = outline_of(kind, n, loads, surpluses, costs, &mut levels);
     by_board(n, &levels, o.offset)
 }
@@ -58,8 +59,8 @@ pub fn traffic_of(s: &[u8]) -> Traffic
     let check = job.answer;
     let Check::Ring { kind, n } = check else {
         return Traffic {
-            sends: [0; 128],
-            receives: [0; 128],
+            sends: [0; MOST_BOARDS],
+            receives: [0; MOST_BOARDS],
         };
     };
     traffic_ring(kind, n as usize, &job.loads, &job.surpluses, &job.costs)

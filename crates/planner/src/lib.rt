@@ -15,6 +15,8 @@ mod sums;
 
 pub use crossings::traffic_of;
 use hop::Check;
+use hop::MOST_BOARDS;
+use ring::Items;
 use ring::Ticks;
 
 // A plan's numbers, or why there is none.
@@ -25,8 +27,8 @@ pub enum Planned {
 
 // What each board sends and receives, by its number; 0 past the last board.
 pub struct Traffic {
-    pub sends: [u32; 128],
-    pub receives: [u32; 128],
+    pub sends: [u32; MOST_BOARDS],
+    pub receives: [u32; MOST_BOARDS],
 }
 
 // The refusal of a check that is no ring.
@@ -40,17 +42,18 @@ fn stopped(check: Check) -> Planned
 }
 
 // Refusals 12 and 13, or the plan's numbers.
-fn weighed(finish: Ticks, moves: u32, tight: u8, room: usize) -> Planned
-    ensures { λ r. ⌜ r ≡ weighedOf (finish .0) moves tight room ⌝ }
+fn weighed(finish: Ticks, moves: Items, tight: u8, room: usize) -> Planned
+    ensures { λ r. ⌜ r ≡ weighedOf (finish .0) (moves .0) tight room ⌝ }
 {
     let ticks = finish.0;
+    let items = moves.0;
     if 4294967295 < ticks {
         return Planned::Refused {
             number: 12,
             board: 0,
         };
     }
-    if room < 15 + 6 * (moves as usize) {
+    if room < 15 + 6 * (items as usize) {
         return Planned::Refused {
             number: 13,
             board: 0,
@@ -58,7 +61,7 @@ fn weighed(finish: Ticks, moves: u32, tight: u8, room: usize) -> Planned
     }
     Planned::Plan {
         finish: ticks as u32,
-        moves,
+        moves: items,
         tight,
     }
 }
@@ -76,10 +79,11 @@ fn plan_ring<'a>(
     ensures { λ r. ⌜ r ≡ answerFor (ringIn kind n (now (loads .entry)) (now (surpluses .entry)) (now (costs .entry))) (length (now (buf .entry))) ⌝ }
     ensures { λ r. ⌜ now (buf .exit) ≡ memoryFor (ringIn kind n (now (loads .entry)) (now (surpluses .entry)) (now (costs .entry))) r (now (buf .entry)) ⌝ }
 {
-    let mut levels = [0u32; 128];
+    let mut levels = [0u32; MOST_BOARDS];
     let o = sums::outline_of(kind, n as usize, loads, surpluses, costs, &mut levels);
     let time = o.finish;
-    let answer = weighed(time, o.moves, o.tight, buf.len());
+    let items = o.moves;
+    let answer = weighed(time, items, o.tight, buf.len());
     let Planned::Plan { finish, moves, .. } = answer else {
         return answer;
     };
@@ -90,7 +94,7 @@ fn plan_ring<'a>(
         n as usize,
         &levels,
         o.offset,
-        o.rounds,
+        o.rounds.0,
         loads,
         costs,
     );
@@ -109,10 +113,11 @@ fn weigh_ring<'a>(
     requires { ⌜ Lent kind n (now loads) (now surpluses) (now costs) ⌝ }
     ensures { λ r. ⌜ r ≡ answerFor (ringIn kind n (now (loads .entry)) (now (surpluses .entry)) (now (costs .entry))) room ⌝ }
 {
-    let mut levels = [0u32; 128];
+    let mut levels = [0u32; MOST_BOARDS];
     let o = sums::outline_of(kind, n as usize, loads, surpluses, costs, &mut levels);
     let time = o.finish;
-    weighed(time, o.moves, o.tight, room)
+    let items = o.moves;
+    weighed(time, items, o.tight, room)
 }
 
 // What `plan` answers with so many bytes of room. Nothing is written.

@@ -13,6 +13,7 @@ use crate::records::put_run;
 use crate::records::put_runs;
 use crate::runs::runs;
 use crate::sums::apart;
+use hop::MOST_BOARDS;
 use ring::Items;
 use ring::link_time;
 
@@ -153,9 +154,9 @@ fn put_in_large(
     requires { ⌜ 15 + 6 * sum (carriesIn (now levels) offset) n ≤ length (now buf) ⌝ }
     ensures { λ _. ⌜ now (buf .exit) ≡ linksAfter kind n (now (loads .entry)) (now (costs .entry)) (now (levels .entry)) offset rounds (now (buf .entry)) ⌝ }
 {
-    let mut from = [0u32; 128];
-    let mut first = [0u64; 128];
-    let mut step = [0u16; 128];
+    let mut from = [0u32; MOST_BOARDS];
+    let mut first = [0u64; MOST_BOARDS];
+    let mut step = [0u16; MOST_BOARDS];
     put_each(
         buf,
         kind,

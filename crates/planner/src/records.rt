@@ -6,26 +6,38 @@ ghost use lib.ListN.{length, drop};
 ghost use Rattle.ring.specs.Bytes.{sendBytes, planHead};
 ghost use Rattle.planner.specs.EvenRuns.{linkBytes, edgeOf, Even, runsBytes};
 
-// The 15 bytes before the records, at the front of a plan's buffer.
+// The bytes before the records.
+fn head(kind: u8, n: u8, finish: u32, moves: u32) -> [u8; 15]
+    ensures { λ r. ⌜ r ≡ planHead kind n finish moves ⌝ }
+{
+    [
+        b'P',
+        b'L',
+        b'N',
+        0,
+        1,
+        kind,
+        n,
+        (finish / 65536 / 256 % 256) as u8,
+        (finish / 65536 % 256) as u8,
+        (finish / 256 % 256) as u8,
+        (finish % 256) as u8,
+        (moves / 65536 / 256 % 256) as u8,
+        (moves / 65536 % 256) as u8,
+        (moves / 256 % 256) as u8,
+        (moves % 256) as u8,
+    ]
+}
+
+// Those bytes at the front of a plan's buffer.
 pub(crate) fn put_head(buf: &mut [u8], kind: u8, n: u8, finish: u32, moves: u32)
     requires { ⌜ 15 ≤ length (now buf) ⌝ }
     ensures { λ _. ⌜ now (buf .exit) ≡ planHead kind n finish moves ++ drop 15 (now (buf .entry)) ⌝ }
 {
-    buf[0] = b'P';
-    buf[1] = b'L';
-    buf[2] = b'N';
-    buf[3] = 0;
-    buf[4] = 1;
-    buf[5] = kind;
-    buf[6] = n;
-    buf[7] = (finish / 65536 / 256 % 256) as u8;
-    buf[8] = (finish / 65536 % 256) as u8;
-    buf[9] = (finish / 256 % 256) as u8;
-    buf[10] = (finish % 256) as u8;
-    buf[11] = (moves / 65536 / 256 % 256) as u8;
-    buf[12] = (moves / 65536 % 256) as u8;
-    buf[13] = (moves / 256 % 256) as u8;
-    buf[14] = (moves % 256) as u8;
+    let bytes = head(kind, n, finish, moves);
+    for i in 0..15 {
+        buf[i] = bytes[i];
+    }
 }
 
 // One record at the front of a part. It holds the start's low 32 bits, which are all of it where the finish is within 32 bits.

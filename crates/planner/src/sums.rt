@@ -15,8 +15,8 @@ use ring::Ticks;
 // more, back where it is less.
 pub(crate) struct Outline {
     pub(crate) offset: u32,
-    pub(crate) rounds: u32,
-    pub(crate) moves: u32,
+    pub(crate) rounds: Items,
+    pub(crate) moves: Items,
     pub(crate) tight: u8,
     pub(crate) finish: Ticks,
 }
@@ -29,7 +29,7 @@ struct Span {
 
 // What the links carry together, which carries the most, and the longest time that one of them takes.
 struct Tally {
-    moves: u32,
+    moves: Items,
     tight: u8,
     slowest: Ticks,
 }
@@ -149,7 +149,7 @@ fn tally_of(n: usize, levels: &[u32], offset: u32, costs: &[u16]) -> Tally
         slowest = later(slowest, ring::link_time(costs[i], Items(items)));
     }
     Tally {
-        moves,
+        moves: Items(moves),
         tight,
         slowest,
     }
@@ -168,11 +168,11 @@ fn offset(kind: u8, low: u32, high: u32) -> u32
 }
 
 // The finish of a kind 3 ring is that of its rounds, of another that of its slowest link.
-fn finish(kind: u8, cost: u16, rounds: u32, slowest: Ticks) -> Ticks
-    ensures { λ r. ⌜ r .0 ≡ pick (eqb kind 3) (rounds * cost) (slowest .0) ⌝ }
+fn finish(kind: u8, cost: u16, rounds: Items, slowest: Ticks) -> Ticks
+    ensures { λ r. ⌜ r .0 ≡ pick (eqb kind 3) (rounds .0 * cost) (slowest .0) ⌝ }
 {
     if kind == 3 {
-        ring::link_time(cost, Items(rounds))
+        ring::link_time(cost, rounds)
     } else {
         slowest
     }
@@ -195,12 +195,13 @@ pub(crate) fn outline_of(
     let offset = offset(kind, span.low, span.high);
     let rounds = greater(largest(n, loads, surpluses), (span.high - span.low + 1) / 2);
     let tally = tally_of(n, levels, offset, costs);
+    let moves = tally.moves;
     let slowest = tally.slowest;
     Outline {
         offset,
-        rounds,
-        moves: tally.moves,
+        rounds: Items(rounds),
+        moves,
         tight: tally.tight,
-        finish: finish(kind, costs[0], rounds, slowest),
+        finish: finish(kind, costs[0], Items(rounds), slowest),
     }
 }

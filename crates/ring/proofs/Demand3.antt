@@ -94,6 +94,6 @@ module _ (r : Ring) (ok : Accepted r) where
     pub ends-with : (t : ℕ) → finish r σ ≤ t → (i : ℕ) → i < r .n → loadAt r σ i t ≡ r .after i
     ends-with = load-at-end r ok σ v
 
-  -- "finish above 4,294,967,295": there is none, the most is 128 × 4,095 × 8,000
+  -- "finish above 4,294,967,295": there is none, since none is above 128 × 4,095 × 8,000
   pub finish-fits : (finishOf r (offset r) ≤ 4193280000) × (finishOf r (offset r) < 4294967296)
   finish-fits = omega (arith, finish-most r ok (offset r) (fits r ok))

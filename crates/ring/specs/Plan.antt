@@ -93,7 +93,7 @@ module _ (r : Ring) where
   unfoldable pub rounds : ℕ
   rounds = max (greatest surplusSize (r .n - 1)) ((R + 1) / 2)
 
-  -- the plan where o is that number
+  -- the plan where o, raised as S is, is the number taken from every S
   module _ (o : ℕ) where
     -- every |f| is at most T
     abbrev pub WithinT : Type 0

@@ -16,11 +16,11 @@ abbrev ring : tie.Start → Ring
 ring s = ringIn (s .args .kind) (s .args .n) (s .args .loads .now) (s .args .surpluses .now) (s .args .costs .now)
 
 abbrev start : tie.After-weighed → tie.Start
-start w = w .before .before .before .before .before .before .before .before
+start w = w .before .before .before .before .before .before .before .before .before
 
 answer : (c : tie.After-weighed) → c .weighed .result ≡ answerFor (ring (start c)) (length (start c .args .buf .now))
 answer c =
-    let o = c .before .before .before in
+    let o = c .before .before .before .before in
     let s = start c in
     c .weighed .ensures
     ∙ answer-is (s .args .kind) (s .args .n) (s .args .loads .now) (s .args .surpluses .now) (s .args .costs .now) (s .pre) (o .outline-of .result) (o .outline-of .ensures .0) (length (s .args .buf .now))
@@ -64,7 +64,7 @@ put-links-requires c κs =
     let k = c .before .before .before .before .before .before in
     let h = through-here k in
     let w = k .before .before .before in
-    let o = w .before .before .before in
+    let o = w .before .before .before .before in
     let s = start w in
     let room : s .args .n ≤ 128 = s .pre .accepted .boards .1 in
     let known = o .outline-of .ensures in
@@ -87,7 +87,7 @@ returns-2 c =
     let g = u .before .before .before .before .before in
     let k = g .before .before in
     let w = k .before .before .before in
-    let o = w .before .before .before in
+    let o = w .before .before .before .before in
     let s = start w in
     let h = through-here k in
     let known = o .outline-of .ensures in (

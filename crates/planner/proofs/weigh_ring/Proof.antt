@@ -17,7 +17,7 @@ weighed-requires c κs = search needs
 
 returns : tie.Need-returns
 returns c =
-    let o = c .before .before .before in
+    let o = c .before .before .before .before in
     let s = o .before .before .before .before in
     let a = s .args in
     c .weighed .ensures

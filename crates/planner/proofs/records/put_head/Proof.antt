@@ -1,114 +1,70 @@
--- `records::put_head`: the stores are the head's bytes. Assumes nothing.
-use native.Mathlib.Omega.{arith}
-use lib.ListN.{length-set}
-use lib.Seq.{sets-eq}
-use Rattle.ring.specs.Bytes.{planHead}
+-- `records::put_head`: the head's bytes are copied one by one. Assumes nothing.
 use borrow.Author.Needs.{needs}
+use mathlib.Core.Path.{_≡_, refl, ap, _∙_}
+use mathlib.Core.List.{List, _++_}
+use Prim.Native.Nat.{_≤_, _-_}
+use native.Mathlib.Omega.{arith}
+use lib.ListN.{length, take, drop}
+use lib.Seq.{take-all}
+use Rattle.hop.proofs.Grow.{Begins, copied}
+use Rattle.planner.proofs.Bytes.{head-long}
 use Rattle.planner.proofs.records.put_head.Statement.{statement}
 use Rattle.planner.proofs.records.put_head.Tie as tie
 
-slice-write-buf : tie.Need-slice-write-buf
+abbrev Inv-loop : tie.InvT-loop
+Inv-loop buf₀ kind n finish moves bytes i₀ buf i = (i ≤ 15) × Begins buf₀ (take i bytes) i buf
+
+abbrev μ-loop : tie.MeasureT-loop
+μ-loop buf₀ kind n finish moves bytes i₀ buf i = 15 - i
+
+head-requires : tie.Need-head-requires Inv-loop μ-loop
+head-requires c κs = search needs
+
+loop-holds : tie.Need-loop-holds Inv-loop μ-loop
+loop-holds c = (omega arith, record { is = refl; long = refl; same = refl })
+
+array-read-buf : tie.Need-array-read-buf Inv-loop μ-loop
+array-read-buf c = search needs
+
+slice-write-buf : tie.Need-slice-write-buf Inv-loop μ-loop
 slice-write-buf c = search needs
 
-slice-write-buf-2 : tie.Need-slice-write-buf-2
-slice-write-buf-2 c = simp length-set (omega arith)
+add-i : tie.Need-add-i Inv-loop μ-loop
+add-i c = search needs
 
-slice-write-buf-3 : tie.Need-slice-write-buf-3
-slice-write-buf-3 c = simp length-set (omega arith)
+loop-less : tie.Need-loop-less Inv-loop μ-loop
+loop-less c = search needs
 
-slice-write-buf-4 : tie.Need-slice-write-buf-4
-slice-write-buf-4 c = simp length-set (omega arith)
+loop-again : tie.Need-loop-again Inv-loop μ-loop
+loop-again c =
+    let l = c .before in
+    let h = l .before in
+    (omega arith, copied (h .head .result) (l .loop .i) (l .loop .inv .1) (omega arith) (omega arith))
 
-slice-write-buf-5 : tie.Need-slice-write-buf-5
-slice-write-buf-5 c = simp length-set (omega arith)
+same-length : tie.Need-same-length Inv-loop μ-loop
+same-length c = search needs
 
-slice-write-buf-6 : tie.Need-slice-write-buf-6
-slice-write-buf-6 c = simp length-set (omega arith)
-
-slice-write-buf-7 : tie.Need-slice-write-buf-7
-slice-write-buf-7 c = simp length-set (omega arith)
-
-cast-buf : tie.Need-cast-buf
-cast-buf c = search needs
-
-slice-write-buf-8 : tie.Need-slice-write-buf-8
-slice-write-buf-8 c = simp length-set (omega arith)
-
-cast-buf-2 : tie.Need-cast-buf-2
-cast-buf-2 c = search needs
-
-slice-write-buf-9 : tie.Need-slice-write-buf-9
-slice-write-buf-9 c = simp length-set (omega arith)
-
-cast-buf-3 : tie.Need-cast-buf-3
-cast-buf-3 c = search needs
-
-slice-write-buf-10 : tie.Need-slice-write-buf-10
-slice-write-buf-10 c = simp length-set (omega arith)
-
-cast-buf-4 : tie.Need-cast-buf-4
-cast-buf-4 c = search needs
-
-slice-write-buf-11 : tie.Need-slice-write-buf-11
-slice-write-buf-11 c = simp length-set (omega arith)
-
-cast-buf-5 : tie.Need-cast-buf-5
-cast-buf-5 c = search needs
-
-slice-write-buf-12 : tie.Need-slice-write-buf-12
-slice-write-buf-12 c = simp length-set (omega arith)
-
-cast-buf-6 : tie.Need-cast-buf-6
-cast-buf-6 c = search needs
-
-slice-write-buf-13 : tie.Need-slice-write-buf-13
-slice-write-buf-13 c = simp length-set (omega arith)
-
-cast-buf-7 : tie.Need-cast-buf-7
-cast-buf-7 c = search needs
-
-slice-write-buf-14 : tie.Need-slice-write-buf-14
-slice-write-buf-14 c = simp length-set (omega arith)
-
-cast-buf-8 : tie.Need-cast-buf-8
-cast-buf-8 c = search needs
-
-slice-write-buf-15 : tie.Need-slice-write-buf-15
-slice-write-buf-15 c = simp length-set (omega arith)
-
-same-length : tie.Need-same-length
-same-length c = simp length-set
-
-returns : tie.Need-returns
-unfolding planHead
-returns c = let a = c .args in sets-eq (planHead (a .kind) (a .n) (a .finish) (a .moves)) (a .buf .now) 0 (c .pre)
+returns : tie.Need-returns Inv-loop μ-loop
+returns c =
+    let l = c .before in
+    let h = l .before in
+    let a = h .before .before .args in
+    let long : length (h .head .result) ≡ 15 = ap length (h .head .ensures) ∙ head-long (a .kind) (a .n) (a .finish) (a .moves) in
+    let all : l .loop .i ≡ 15 = omega arith in
+    (rw all at (l .loop .inv .1)) .is ∙ ap (λ (p : List _). p ++ drop 15 (a .buf .now)) (take-all 15 (h .head .result) (omega arith) ∙ h .head .ensures)
 
 pub put-head-spec : {M : Type 1} → statement M
 put-head-spec =
     tie.close
     (tie.spec
+    Inv-loop
+    μ-loop
+    head-requires
+    loop-holds
+    array-read-buf
     slice-write-buf
-    slice-write-buf-2
-    slice-write-buf-3
-    slice-write-buf-4
-    slice-write-buf-5
-    slice-write-buf-6
-    slice-write-buf-7
-    cast-buf
-    slice-write-buf-8
-    cast-buf-2
-    slice-write-buf-9
-    cast-buf-3
-    slice-write-buf-10
-    cast-buf-4
-    slice-write-buf-11
-    cast-buf-5
-    slice-write-buf-12
-    cast-buf-6
-    slice-write-buf-13
-    cast-buf-7
-    slice-write-buf-14
-    cast-buf-8
-    slice-write-buf-15
+    add-i
+    loop-less
+    loop-again
     same-length
     returns)

@@ -66,7 +66,7 @@ tally-of-requires c κs =
 
 shared-slice-read-finish : tie.Need-shared-slice-read-finish
 shared-slice-read-finish c =
-    let s = c .before .before .before .before .before .before .before .before .before .before .before .before .before .before .before in
+    let s = c .before .before .before .before .before .before .before .before .before .before .before .before .before .before .before .before in
     omega (arith, s .pre .0 .accepted .boards, s .pre .0 .costs-long)
 
 finish-requires : tie.Need-finish-requires
@@ -77,7 +77,7 @@ same-length c = search needs
 
 returns : tie.Need-returns
 returns c =
-    let t = c .before .before .before in
+    let t = c .before .before .before .before in
     let g = t .before .before in
     let b = g .before .before in
     let o = b .before in

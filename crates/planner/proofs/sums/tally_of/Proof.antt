@@ -102,7 +102,7 @@ returns c =
     let inv = rw e at (l .loop .inv) in
     let tight = inv .3 ∙ summit-is g (s .args .n) (s .pre .0) in
     let slowest = inv .5 ∙ highest-is h (s .args .n) (s .pre .0) in
-    λ t. record { moves = inv .1 t; tight = tight t; slowest = record { 0 = slowest t } }
+    λ t. record { moves = record { 0 = inv .1 t }; tight = tight t; slowest = record { 0 = slowest t } }
 
 pub tally-of-spec : {M : Type 1} → statement M
 tally-of-spec =
