@@ -6,7 +6,7 @@ use Prim.Native.Nat.{ℕ, suc, _+_, _-_, _≤_, _<_}
 use native.Mathlib.Omega.{arith}
 use native.Mathlib.Numerals.{add-one}
 use lib.ListN.{length, take, drop, set, getD, length-append, length-drop}
-use lib.Seq.{take-all, drop-cons, take-suc, set-at, append-snoc}
+use lib.Seq.{take-all, drop-cons, set-at, append-snoc}
 use borrow.Rule.Slice.PartMut.{putMid, midOf}
 use Rattle.ring.specs.Lists.{joined}
 use Rattle.hop.proofs.Grow.{Begins, grown}
@@ -54,11 +54,6 @@ module _ (g : ℕ → List ℕ) where
   unfolding joined
   next k xs now ys a b w v h = rw (add-one k) (piece (joined g k) (g k) xs now ys a b w v h)
 
--- a word of which the first i bytes are copied
-pub letter : (word xs now : List ℕ) (i : ℕ) → Wrote (take i word) xs now i → i < length word → length word ≤ length xs → Wrote (take (i + 1) word) xs (set now i (getD word i 0)) (i + 1)
-letter word xs now i w h l =
-    let e : take (suc i) word ≡ take i word ++ getD word i 0 ∷ [] = take-suc word i 0 h in
-    rw (add-one i, e) (rw (add-one i) at (byte (take i word) xs now i (getD word i 0) w (omega arith)))
-
-pub whole : (word xs now : List ℕ) (i : ℕ) → Wrote (take i word) xs now i → length word ≤ i → Wrote word xs now (length word)
-whole word xs now i w h = (refl, (rw (take-all i word h) at w) .1)
+-- a word that is copied whole
+pub whole : (word xs now : List ℕ) (i : ℕ) → Begins xs (take i word) i now → i ≡ length word → Wrote word xs now (length word)
+whole word xs now i b e = (refl, b .is ∙ (λ t. take-all i word (omega arith) t ++ drop (e t) xs))

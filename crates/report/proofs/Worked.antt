@@ -10,7 +10,7 @@ use Rattle.hop.specs.Refusals.{faultless, ringCheck}
 use Rattle.hop.specs.Read.{checkOf, jobOf}
 use Rattle.planner.specs.Answer.{planAnswer}
 use Rattle.report.specs.Text.{ascii, digits, decimal, refusalLine}
-use Rattle.report.specs.Report.{reportOf}
+use Rattle.report.specs.Report.{reportOf, printed}
 
 -- kind 2, 4 boards: loads 5 1 1 2, surpluses 3 0 −2 −1, costs 2 3 1 4
 abbrev jobA : List ℕ
@@ -22,9 +22,9 @@ jobA =
     ∷ 0 ∷ 2 ∷ 255 ∷ 255 ∷ 0 ∷ 4
     ∷ []
 
-pub case-a : reportOf (jobOf jobA) 65535
+pub case-a : printed jobA
     ≡ ascii "finish 9 moves 7 tight 0\nboard 0 sends 3 receives 0\nboard 1 sends 3 receives 3\nboard 2 sends 1 receives 3\nboard 3 sends 0 receives 1\n"
-unfolding sum sumℤ least greatest peak total joined fill boardOf endsAfter level low high offset ahead behind endBack rounds startOf finishOf moves tight faultless ringCheck checkOf jobOf planAnswer reportOf digits decimal
+unfolding sum sumℤ least greatest peak total joined fill boardOf endsAfter level low high offset ahead behind endBack rounds startOf finishOf moves tight faultless ringCheck checkOf jobOf planAnswer reportOf printed digits decimal
 case-a = refl
 
 pub refused : refusalLine 10 127 ≡ ascii "refused 10 board 127\n"

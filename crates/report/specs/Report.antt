@@ -1,11 +1,13 @@
--- Document 01, "The program": the text of the planner's answer to a job.
+-- Document 01, "The program": the text of the planner's answer to a job, and what is printed of an input.
 use mathlib.Core.List.{List, _++_}
-use Prim.Native.Nat.{ℕ}
-use Rattle.ring.specs.Boards.{Ring}
+use Prim.Native.Nat.{ℕ, _+_}
+use lib.ListN.{take}
+use Rattle.ring.specs.Boards.{Ring, mostBoards}
 use Rattle.ring.specs.Schedule.{sender, receiver}
 use Rattle.hop.specs.declared.Check.{Check}
 use Rattle.hop.specs.declared.Check.the-variants.{Ring as Read, Refused as Unread}
 use Rattle.hop.specs.declared.Job.{Job}
+use Rattle.hop.specs.Read.{jobLength, jobOf}
 use Rattle.planner.specs.declared.Planned.{Planned}
 use Rattle.planner.specs.declared.Planned.the-variants.{Plan, Refused}
 use Rattle.planner.specs.Answer.{ringFor, planAnswer}
@@ -25,3 +27,15 @@ textBy job (Read kind n) (Plan finish moves tight) = planText (ringFor job kind 
 -- what is printed of a job that is planned into so many bytes of room
 unfoldable pub reportOf : Job → ℕ → List ℕ
 reportOf job room = textBy job (job .answer) (planAnswer job room)
+
+-- the most bytes of an input that are read: one byte more than the longest job
+abbrev pub inputLimit : ℕ
+inputLimit = jobLength mostBoards + 1
+
+-- the bytes that are planned into
+abbrev pub planRoom : ℕ
+planRoom = 65535
+
+-- what the program prints of an input: the text of its first bytes, up to the limit, as a job
+unfoldable pub printed : List ℕ → List ℕ
+printed s = reportOf (jobOf (take inputLimit s)) planRoom

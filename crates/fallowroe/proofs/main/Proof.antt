@@ -8,8 +8,8 @@ use lib.Seq.{length-take-le}
 use Rattle.fallowroe.proofs.main.Statement.{statement}
 use Rattle.fallowroe.proofs.main.Tie as tie
 
-fits : (c : tie.After-report) → c .report .result ≤ length (c .report .last .1 .1 .0)
-fits c = omega (arith, simp length-append at (ap length (c .report .ensures .1 .1)))
+fits : (c : tie.After-printout) → c .printout .result ≤ length (c .printout .last .1 .0)
+fits c = omega (arith, simp length-append at (ap length (c .printout .ensures .1)))
 
 slice-aggregate-read-full : tie.Need-slice-aggregate-read-full
 slice-aggregate-read-full c = search needs
@@ -20,20 +20,17 @@ read-full-requires c κs = search needs
 array-share-prefix-input : tie.Need-array-share-prefix-input
 array-share-prefix-input c = search needs
 
-slice-aggregate-report : tie.Need-slice-aggregate-report
-slice-aggregate-report c = search needs
+slice-aggregate-printout : tie.Need-slice-aggregate-printout
+slice-aggregate-printout c = search needs
 
-slice-aggregate-report-2 : tie.Need-slice-aggregate-report-2
-slice-aggregate-report-2 c = search needs
-
-report-requires : tie.Need-report-requires
-report-requires c κs = search needs
+printout-requires : tie.Need-printout-requires
+printout-requires c κs = search needs
 
 array-share-prefix-text : tie.Need-array-share-prefix-text
-array-share-prefix-text c = fits (c .before)
+array-share-prefix-text c = fits c
 
 slice-aggregate-write-all : tie.Need-slice-aggregate-write-all
-slice-aggregate-write-all c = sym (length-take-le (c .before .before .report .result) (c .before .before .report .last .1 .1 .0) (fits (c .before .before)))
+slice-aggregate-write-all c = sym (length-take-le (c .before .printout .result) (c .before .printout .last .1 .0) (fits (c .before)))
 
 write-all-requires : tie.Need-write-all-requires
 write-all-requires c κs = search needs
@@ -48,9 +45,8 @@ main-spec =
     slice-aggregate-read-full
     read-full-requires
     array-share-prefix-input
-    slice-aggregate-report
-    slice-aggregate-report-2
-    report-requires
+    slice-aggregate-printout
+    printout-requires
     array-share-prefix-text
     slice-aggregate-write-all
     write-all-requires

@@ -1,21 +1,22 @@
 -- The first i bytes are copied.
 use borrow.Author.Needs.{needs}
-use mathlib.Core.Path.{_≡_}
+use mathlib.Core.Path.{refl}
 use Prim.Native.Nat.{_-_, _≤_}
-use lib.ListN.{length, take, length-set}
+use lib.ListN.{length, take}
 use native.Mathlib.Omega.{arith}
-use Rattle.report.proofs.Grow.{Wrote, letter, whole}
+use Rattle.hop.proofs.Grow.{Begins, copied}
+use Rattle.report.proofs.Grow.{whole}
 use Rattle.report.proofs.text.put_word.Statement.{statement}
 use Rattle.report.proofs.text.put_word.Tie as tie
 
 abbrev Inv-loop : tie.InvT-loop
-Inv-loop part₀ word n i₀ part i = (i ≤ length word) × Wrote (take i word) part₀ part i × (length part ≡ length part₀)
+Inv-loop part₀ word n i₀ part i = (i ≤ length word) × Begins part₀ (take i word) i part
 
 abbrev μ-loop : tie.MeasureT-loop
 μ-loop part₀ word n i₀ part i = length word - i
 
 loop-holds : tie.Need-loop-holds Inv-loop μ-loop
-loop-holds c = search needs
+loop-holds c = (omega arith, record { is = refl; long = refl; same = refl })
 
 shared-slice-read-part : tie.Need-shared-slice-read-part Inv-loop μ-loop
 shared-slice-read-part c = search needs
@@ -32,11 +33,7 @@ loop-less c = search needs
 loop-again : tie.Need-loop-again Inv-loop μ-loop
 loop-again c =
     let l = c .before .before in
-    let a = l .before .args in (
-      search needs,
-      letter (a .word .now) (a .part .now) (l .loop .part) (l .loop .i) (l .loop .inv .1) (omega arith) (omega arith),
-      simp length-set (omega arith),
-    )
+    (omega arith, copied (l .before .args .word .now) (l .loop .i) (l .loop .inv .1) (omega arith) (omega arith))
 
 same-length : tie.Need-same-length Inv-loop μ-loop
 same-length c = search needs
