@@ -5,10 +5,10 @@ use Rattle.cases.proofs.show_list.Statement.{statement}
 use Rattle.cases.proofs.show_list.Tie as tie
 
 abbrev Inv-loop : tie.InvT-loop
-Inv-loop list i₀ i = (i ≤ 5)
+Inv-loop list boards i₀ i = i ≤ boards
 
 abbrev μ-loop : tie.MeasureT-loop
-μ-loop list i₀ i = 5 - i
+μ-loop list boards i₀ i = boards - i
 
 slice-aggregate-write-all : tie.Need-slice-aggregate-write-all Inv-loop μ-loop
 slice-aggregate-write-all c = search needs
@@ -34,6 +34,9 @@ loop-again c = search needs
 returns : tie.Need-returns Inv-loop μ-loop
 returns c = search needs
 
+returns-2 : tie.Need-returns-2 Inv-loop μ-loop
+returns-2 c = search needs
+
 pub show-list-spec : {M : Type 1} → statement M
 show-list-spec =
     tie.close
@@ -47,4 +50,5 @@ show-list-spec =
     add-i
     loop-less
     loop-again
-    returns)
+    returns
+    returns-2)
