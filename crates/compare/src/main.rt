@@ -1,25 +1,42 @@
-// Plans many rings twice, by the planner and by the second planner, and compares answers and bytes.
+// Plans many rings twice, by the planner and by the second planner, and compares answers and bytes; and judges the planner's plans.
+mod damage;
+mod judge;
 mod rings;
 mod second;
+mod table;
 
 ghost use Prim.Native.Nat.{_≤_, _<_};
+use damage::Bytes;
 use libc::STDOUT_FILENO;
 use planner::Planned;
 use second::Answer;
+use second::length;
 use std::num::wrapping_add_u32;
+use table::Job;
 
 // What every byte of a buffer is before it is lent.
 const UNTOUCHED: u8 = 170;
 
-// What was compared, and what differed.
+// The rings that are drawn.
+const RINGS: u32 = 24000;
+
+// What was compared, what differed, and what the judge found.
 struct Counts {
-    rings: [u32; 4],
     waiting: u32,
+    // plans with a load or a cost at its limit, and with a finish past 16 and 24 bits
+    loads: u32,
+    costs: u32,
+    past16: u32,
+    past24: u32,
     sends: u32,
     damaged: u32,
     refused: [u32; 16],
+    // refusals of another board than board 0
+    elsewhere: u32,
     short: u32,
     differences: u32,
+    judged: [u32; 4],
+    invalid: u32,
 }
 
 fn least(a: usize, b: usize) -> usize
@@ -87,37 +104,57 @@ fn answers_differ(mine: Answer, theirs: Planned) -> u32 {
     }
 }
 
-// The length of the plan that the second planner wrote.
-fn length(mine: Answer) -> usize
+// The length of the second planner's plan, 0 where it gave none.
+fn written(mine: Answer) -> usize
     ensures { λ r. ⌜ r < 1000000000000 ⌝ }
 {
     if mine.number == 0 {
-        15 + 6 * (mine.moves as usize)
+        length(mine.moves)
     } else {
         0
     }
 }
 
-fn counted(counts: Counts, kind: u8, mine: Answer, differences: u32) -> Counts {
+// One more where it is so.
+fn more_if(n: u32, so: bool) -> u32 {
+    if so { wrapping_add_u32(n, 1) } else { n }
+}
+
+fn counted_refusal(counts: Counts, number: u8, board: u8) -> Counts {
     let mut more = counts;
-    more.differences = wrapping_add_u32(counts.differences, differences);
-    if mine.number != 0 {
-        let k = (mine.number % 16) as usize;
-        more.refused[k] = wrapping_add_u32(more.refused[k], 1);
-        return more;
-    }
-    let k = (kind % 4) as usize;
-    more.rings[k] = wrapping_add_u32(more.rings[k], 1);
-    more.sends = wrapping_add_u32(counts.sends, mine.moves);
-    more.short = wrapping_add_u32(counts.short, 1);
-    if 0 < mine.waits {
-        more.waiting = wrapping_add_u32(counts.waiting, 1);
-    }
+    let k = (number % 16) as usize;
+    more.refused[k] = wrapping_add_u32(counts.refused[k], 1);
+    more.elsewhere = more_if(counts.elsewhere, 0 < board);
     more
 }
 
-fn kind_of(job: &[u8]) -> u8 {
-    if 5 < job.len() { job[5] } else { 0 }
+fn counted(counts: Counts, job: Job, mine: Answer) -> Counts {
+    if mine.number != 0 {
+        return counted_refusal(counts, mine.number, mine.board);
+    }
+    let mut more = counts;
+    more.waiting = more_if(counts.waiting, 0 < mine.waits);
+    more.loads = more_if(counts.loads, job.load == 4095);
+    more.costs = more_if(counts.costs, job.cost == 8000);
+    more.past16 = more_if(counts.past16, 65535 < mine.finish);
+    more.past24 = more_if(counts.past24, 16777215 < mine.finish);
+    more.sends = wrapping_add_u32(counts.sends, mine.moves);
+    more.short = wrapping_add_u32(counts.short, 1);
+    more
+}
+
+// The planner's plan judged and counted by its kind, where it gave one.
+fn judged(counts: Counts, job: Job, planned: Planned, theirs: &[u8]) -> Counts {
+    let Planned::Plan { moves, .. } = planned else {
+        return counts;
+    };
+    let end = least(length(moves), theirs.len());
+    let faults = judge::faults(job, moves, &theirs[0..end]);
+    let mut more = counts;
+    let k = (job.kind % 4) as usize;
+    more.judged[k] = wrapping_add_u32(counts.judged[k], 1);
+    more.invalid = more_if(counts.invalid, 0 < faults);
+    more
 }
 
 // The planner on the first bytes of a buffer.
@@ -129,7 +166,7 @@ fn plan_part(job: &[u8], theirs: &mut [u8], room: usize) -> Planned {
 // What differs after both have planned a job: the answers, the bytes lent, and those past the plan's end that are not as they were.
 fn found(answer: Answer, planned: Planned, mine: &[u8], theirs: &[u8], room: usize) -> u32 {
     let bytes = bytes_differ(mine, theirs, room);
-    let past = touched(mine, length(answer), room);
+    let past = touched(mine, written(answer), room);
     wrapping_add_u32(
         answers_differ(answer, planned),
         wrapping_add_u32(bytes, past),
@@ -156,27 +193,44 @@ fn compare_short(job: &[u8], end: usize, theirs: &mut [u8]) -> u32 {
     }
 }
 
-// The planner beside an answer of the second planner, whose plan is in `mine`.
-fn compare_with(
-    answer: Answer,
-    job: &[u8],
-    room: usize,
-    mine: &mut [u8],
-    theirs: &mut [u8],
-) -> u32 {
-    let planned = plan_part(job, theirs, room);
-    let differences = found(answer, planned, mine, theirs, room);
-    restore(mine, room);
-    restore(theirs, room);
-    wrapping_add_u32(differences, compare_short(job, length(answer), theirs))
+// The bytes that are lent to the planner: for a plan that is longer than the buffer all of them, else the plan's and 0 to 8 more.
+fn room_of(mine: Answer, all: usize) -> usize {
+    if mine.number == 13 {
+        all
+    } else {
+        written(mine) + (8 - mine.moves % 9) as usize
+    }
 }
 
-// One job, with so many bytes lent to the planner beyond the plan's. A refused job's buffer has only those.
-fn compare(counts: Counts, job: &[u8], tail: usize, mine: &mut [u8], theirs: &mut [u8]) -> Counts {
+// The planner beside an answer of the second planner, whose plan is in `mine`.
+fn compare_with(
+    counts: Counts,
+    job: Job,
+    answer: Answer,
+    bytes: &[u8],
+    room: usize,
+    mine: &[u8],
+    theirs: &mut [u8],
+) -> Counts {
+    let planned = plan_part(bytes, theirs, room);
+    let differences = found(answer, planned, mine, theirs, room);
+    let mut more = judged(counts, job, planned, theirs);
+    more.differences = wrapping_add_u32(counts.differences, differences);
+    restore(theirs, room);
+    more
+}
+
+// One job.
+fn compare(counts: Counts, bytes: &[u8], mine: &mut [u8], theirs: &mut [u8]) -> Counts {
+    let job = table::read(bytes);
     let answer = second::plan(job, mine);
-    let room = length(answer) + least(tail, 64);
-    let differences = compare_with(answer, job, room, mine, theirs);
-    counted(counts, kind_of(job), answer, differences)
+    let room = room_of(answer, mine.len());
+    let all = counted(counts, job, answer);
+    let mut more = compare_with(all, job, answer, bytes, room, mine, theirs);
+    restore(mine, room);
+    let short = compare_short(bytes, written(answer), theirs);
+    more.differences = wrapping_add_u32(more.differences, short);
+    more
 }
 
 // The first bytes of a buffer as a job.
@@ -188,51 +242,40 @@ fn compare_first(
     theirs: &mut [u8],
 ) -> Counts {
     let end = least(length, bytes.len());
-    let mut more = compare(counts, &bytes[0..end], 64, mine, theirs);
-    more.damaged = wrapping_add_u32(counts.damaged, 1);
-    more
+    compare(counts, &bytes[0..end], mine, theirs)
 }
 
-// A byte that is not b.
-fn changed(b: u8, by: u16) -> u8 {
-    (((b as u16) + 1 + by % 255) % 256) as u8
-}
-
-// The job with one byte changed.
-fn compare_changed(
+// The job whole, and damaged in every way; the last damage aims at the refusal of this number.
+fn compare_job(
     counts: Counts,
     seed: &mut u64,
-    job: [u8; 800],
-    length: usize,
+    job: Bytes,
+    number: usize,
     mine: &mut [u8],
     theirs: &mut [u8],
-) -> Counts
-    requires { ⌜ length ≤ 775 ⌝ }
-{
-    let at = (rings::draw(seed, length as u16) % 775) as usize;
-    let mut bad = job;
-    bad[at] = changed(bad[at], rings::draw(seed, 255));
-    compare_first(counts, &bad, length, mine, theirs)
+) -> Counts {
+    let mut all = counts;
+    for way in 0..6 {
+        let damaged = damage::damaged(seed, job, way, number);
+        let bytes = damaged.bytes;
+        all = compare_first(all, &bytes, damaged.length, mine, theirs);
+        all.damaged = more_if(all.damaged, 0 < way);
+    }
+    all
 }
 
-// The job cut, and the job with bytes after it.
-fn compare_cut(
-    counts: Counts,
-    seed: &mut u64,
-    job: [u8; 800],
-    length: usize,
-    mine: &mut [u8],
-    theirs: &mut [u8],
-) -> Counts
-    requires { ⌜ length ≤ 775 ⌝ }
-{
-    let less = rings::draw(seed, length as u16) as usize;
-    let more = length + 1 + (rings::draw(seed, 8) % 8) as usize;
-    let once = compare_first(counts, &job, less, mine, theirs);
-    compare_first(once, &job, more, mine, theirs)
+// How far the job writer's bytes differ from a ring's job. One that it refuses differs.
+fn write_differs(ring: rings::Drawn, job: Bytes) -> u32 {
+    let bytes = job.bytes;
+    let mut theirs = [0u8; 800];
+    let length = rings::write(ring, &mut theirs);
+    wrapping_add_u32(
+        bytes_differ(&bytes, &theirs, 800),
+        if length == job.length { 0 } else { 1 },
+    )
 }
 
-// Ring r, and its damaged jobs. A ring that the job writer refuses differs.
+// Ring r. Its jobs are damaged for refusals 7 to 11 by turns.
 fn compare_ring(
     counts: Counts,
     seed: &mut u64,
@@ -240,28 +283,31 @@ fn compare_ring(
     mine: &mut [u8],
     theirs: &mut [u8],
 ) -> Counts {
-    let mut job = [0u8; 800];
-    let length = least(rings::draw_job(seed, r, &mut job), 775);
-    let mut whole = compare(counts, &job[0..length], (r % 9) as usize, mine, theirs);
-    if length == 0 {
-        whole.differences = wrapping_add_u32(whole.differences, 1);
-    }
-    let once = compare_changed(whole, seed, job, length, mine, theirs);
-    compare_cut(once, seed, job, length, mine, theirs)
+    let ring = rings::draw_ring(seed, r);
+    let job = damage::job_of(ring);
+    let mut all = counts;
+    all.differences = wrapping_add_u32(counts.differences, write_differs(ring, job));
+    compare_job(all, seed, job, 7 + (r % 5) as usize, mine, theirs)
 }
 
 fn compare_all(mine: &mut [u8], theirs: &mut [u8]) -> Counts {
     let mut counts = Counts {
-        rings: [0; 4],
         waiting: 0,
+        loads: 0,
+        costs: 0,
+        past16: 0,
+        past24: 0,
         sends: 0,
         damaged: 0,
         refused: [0; 16],
+        elsewhere: 0,
         short: 0,
         differences: 0,
+        judged: [0; 4],
+        invalid: 0,
     };
     let mut seed: u64 = 1;
-    for r in 0..24000 {
+    for r in 0..RINGS {
         counts = compare_ring(counts, &mut seed, r, mine, theirs);
     }
     counts
@@ -273,31 +319,56 @@ fn line(label: &[u8], n: u32) {
     io::write_all(STDOUT_FILENO, b"\n");
 }
 
-fn refusal(number: u32, n: u32) {
-    io::write_all(STDOUT_FILENO, b"refused ");
+// A count of one kind or of one refusal.
+fn numbered(label: &[u8], number: u32, n: u32) {
+    io::write_all(STDOUT_FILENO, label);
     io::print_decimal(STDOUT_FILENO, number as u64);
     line(b": ", n);
 }
 
-fn refusals(refused: [u32; 16]) {
+fn print_rings(counts: Counts) {
+    let judged = counts.judged;
+    numbered(b"plans judged of kind ", 1, judged[1]);
+    numbered(b"plans judged of kind ", 2, judged[2]);
+    numbered(b"plans judged of kind ", 3, judged[3]);
+    line(b"plans in which a board waits: ", counts.waiting);
+}
+
+fn print_limits(counts: Counts) {
+    line(b"plans with a load of 4095: ", counts.loads);
+    line(b"plans with a cost of 8000: ", counts.costs);
+    line(b"plans with a finish past 16 bits: ", counts.past16);
+    line(b"plans with a finish past 24 bits: ", counts.past24);
+    line(b"sends: ", counts.sends);
+}
+
+fn refusal(number: u32, n: u32) {
+    numbered(b"refused ", number, n);
+}
+
+// Refusals 1 to 11 and 13; 12 is never given.
+fn print_refusals(refused: [u32; 16]) {
     for i in 1..12 {
         refusal(i as u32, refused[i]);
     }
+    refusal(13, refused[13]);
+}
+
+fn print_found(counts: Counts) {
+    line(b"refusals of a board other than 0: ", counts.elsewhere);
+    line(b"damaged jobs: ", counts.damaged);
+    line(b"buffers a byte short: ", counts.short);
+    line(b"differences: ", counts.differences);
+    line(b"plans that are no valid schedule: ", counts.invalid);
 }
 
 fn main() {
     let mut mine = [UNTOUCHED; 65535];
     let mut theirs = [UNTOUCHED; 65535];
     let counts = compare_all(&mut mine, &mut theirs);
-    let rings = counts.rings;
-    line(b"rings of kind 1: ", rings[1]);
-    line(b"rings of kind 2: ", rings[2]);
-    line(b"rings of kind 3: ", rings[3]);
-    line(b"rings in which a board waits: ", counts.waiting);
-    line(b"sends: ", counts.sends);
-    line(b"damaged jobs: ", counts.damaged);
     let refused = counts.refused;
-    refusals(refused);
-    line(b"buffers a byte short: ", counts.short);
-    line(b"differences: ", counts.differences);
+    print_rings(counts);
+    print_limits(counts);
+    print_refusals(refused);
+    print_found(counts);
 }

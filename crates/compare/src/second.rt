@@ -1,16 +1,17 @@
-// A second planner, by another way than the planner's: it plays the ring. It shares the job reader with the planner and nothing else,
-// and it is there to be compared with it. Nothing is promised of its answers but that they come.
+// A second planner, by another way than the planner's: it plays the ring. It shares nothing with the planner, and it is there to be compared
+// with it. Nothing is promised of its answers but that they come.
 ghost use Prim.Native.Nat.{_≤_, _<_};
-use hop::Check;
+use crate::table::Job;
+use crate::table::above;
+use crate::table::boards;
+use crate::table::least;
+use crate::table::most;
 use std::num::wrapping_add_u32;
 use std::num::wrapping_add_usize;
 use std::num::wrapping_sub_u32;
 
 // S is kept above this number, so that it is never below 0.
 const RAISED: u32 = 2147483648;
-
-// The ticks after which a one-way play is given up.
-const TICKS: u32 = 20000000;
 
 // The refusal's number and board, or number 0 and the plan's finish, moves and tight link.
 pub(crate) struct Answer {
@@ -21,76 +22,35 @@ pub(crate) struct Answer {
     pub(crate) tight: u8,
     // how often a board of a one-way ring had an item to send, a free link, and none in hand
     pub(crate) waits: u32,
-    // the sends that the play never came to; 0 unless it was given up
+    // the sends that the play never came to
     pub(crate) left: u32,
 }
 
-// The numbers of a job's boards so far; S raised, the last, the least and the greatest, and the largest |surplus|.
+// S raised, the least and the greatest, and the largest |surplus|.
 struct Sums {
-    loads: [u32; 128],
-    costs: [u32; 128],
-    sums: [u32; 128],
-    sum: u32,
+    each: [u32; 128],
     low: u32,
     high: u32,
     widest: u32,
 }
 
-// What each link carries so far, forward or back, and the place of its first record; the moves, the most that one carries, and which.
-struct Flow {
-    ahead: [u32; 128],
-    behind: [u32; 128],
-    places: [usize; 128],
-    moves: u32,
-    most: u32,
-    tight: u8,
-}
-
-// The sends so far, the latest of their ends, and the waits.
-struct Tally {
-    sent: u32,
-    finish: u32,
+// A board in play and its link: the sends that are left, all of one direction, the end of the last one, and the place of the next record.
+struct Board {
+    load: u32,
+    cost: u32,
+    left: u32,
+    direction: u8,
+    end: u32,
+    place: usize,
     waits: u32,
 }
 
-// n as a number of boards.
-fn boards(n: u8) -> usize
-    ensures { λ r. ⌜ r ≤ 128 ⌝ }
-{
-    if n < 128 { n as usize } else { 128 }
-}
-
-fn least(a: u32, b: u32) -> u32 {
-    if a < b { a } else { b }
-}
-
-fn most(a: u32, b: u32) -> u32 {
-    if a < b { b } else { a }
-}
-
-// How far a is above b, 0 where it is not.
-fn above(a: u32, b: u32) -> u32 {
-    if b < a { a - b } else { 0 }
-}
-
-// The byte at place k, 0 past the end.
-fn byte(s: &[u8], k: usize) -> u8 {
-    if k < s.len() { s[k] } else { 0 }
-}
-
-// The 16 bits at place k.
-fn half(s: &[u8], k: usize) -> u32 {
-    let next = wrapping_add_usize(k, 1);
-    (byte(s, k) as u32) * 256 + (byte(s, next) as u32)
-}
-
-// Sixteen bits in two's complement, in 32.
-fn extended(bits: u32) -> u32 {
-    if bits < 32768 {
-        bits
-    } else {
-        wrapping_sub_u32(bits, 65536)
-    }
+// The boards as a play begins, the moves, the most that a link carries, and which.
+struct Ring {
+    boards: [Board; 128],
+    moves: u32,
+    most: u32,
+    tight: u8,
 }
 
 // The size of a number in two's complement.
@@ -103,79 +63,79 @@ fn size(x: u32) -> u32 {
 }
 
 // The length of a plan of so many sends, and so the place of the next record.
-fn length(moves: u32) -> usize {
+pub(crate) fn length(moves: u32) -> usize
+    ensures { λ r. ⌜ r < 1000000000000 ⌝ }
+{
     15 + 6 * (moves as usize)
 }
 
-// The sums with one board more.
-fn with_board(before: Sums, s: &[u8], i: usize) -> Sums
-    requires { ⌜ i < 128 ⌝ }
-{
-    let at = 7 + 6 * i;
-    let surplus = extended(half(s, at + 2));
-    let sum = wrapping_add_u32(before.sum, surplus);
-    let mut sums = before;
-    sums.loads[i] = half(s, at);
-    sums.costs[i] = half(s, at + 4);
-    sums.sums[i] = sum;
-    sums.sum = sum;
-    sums.low = least(before.low, sum);
-    sums.high = most(before.high, sum);
-    sums.widest = most(before.widest, size(surplus));
-    sums
-}
-
-fn sums_of(s: &[u8], n: usize) -> Sums
-    requires { ⌜ n ≤ 128 ⌝ }
-{
+fn sums_of(job: Job) -> Sums {
     let mut sums = Sums {
-        loads: [0; 128],
-        costs: [0; 128],
-        sums: [0; 128],
-        sum: RAISED,
+        each: [0; 128],
         low: u32::MAX,
         high: 0,
         widest: 0,
     };
+    let mut sum = RAISED;
+    let n = boards(job.n);
     for i in 0..n {
-        sums = with_board(sums, s, i);
+        let surplus = wrapping_sub_u32(job.loads[i], job.afters[i]);
+        sum = wrapping_add_u32(sum, surplus);
+        sums.each[i] = sum;
+        sums.low = least(sums.low, sum);
+        sums.high = most(sums.high, sum);
+        sums.widest = most(sums.widest, size(surplus));
     }
     sums
 }
 
-// The flow with one link more, S of which is given.
-fn with_link(before: Flow, i: usize, sum: u32, offset: u32) -> Flow
-    requires { ⌜ i < 128 ⌝ }
-{
-    let fore = above(sum, offset);
-    let back = above(offset, sum);
-    let mut flow = before;
-    flow.ahead[i] = fore;
-    flow.behind[i] = back;
-    flow.places[i] = length(before.moves);
-    flow.moves = wrapping_add_u32(before.moves, most(fore, back));
-    if before.most < most(fore, back) {
-        flow.most = most(fore, back);
-        flow.tight = i as u8;
+// The number taken from every S, raised as S is.
+fn offset_of(kind: u8, low: u32, high: u32) -> u32 {
+    if kind == 3 {
+        wrapping_add_u32(low, above(high, low) / 2)
+    } else {
+        low
     }
-    flow
 }
 
-fn flow_of(n: usize, sums: &[u32; 128], offset: u32) -> Flow
-    requires { ⌜ n ≤ 128 ⌝ }
+// Which link is tight when link i, that carries so many, is looked at.
+fn tighter(tight: u8, most: u32, items: u32, i: usize) -> u8
+    requires { ⌜ i < 128 ⌝ }
 {
-    let mut flow = Flow {
-        ahead: [0; 128],
-        behind: [0; 128],
-        places: [0; 128],
+    if most < items { i as u8 } else { tight }
+}
+
+// A board as a play begins: its link has this S, and so many sends are on the links before.
+fn board_of(load: u32, cost: u32, sum: u32, offset: u32, before: u32) -> Board {
+    Board {
+        load,
+        cost,
+        left: most(above(sum, offset), above(offset, sum)),
+        direction: if sum < offset { 1 } else { 0 },
+        end: 0,
+        place: length(before),
+        waits: 0,
+    }
+}
+
+fn ring_of(job: Job, sums: Sums) -> Ring {
+    let rest = board_of(0, 0, 0, 0, 0);
+    let mut ring = Ring {
+        boards: [rest; 128],
         moves: 0,
         most: 0,
         tight: 0,
     };
+    let offset = offset_of(job.kind, sums.low, sums.high);
+    let n = boards(job.n);
     for i in 0..n {
-        flow = with_link(flow, i, sums[i], offset);
+        let board = board_of(job.loads[i], job.costs[i], sums.each[i], offset, ring.moves);
+        ring.boards[i] = board;
+        ring.tight = tighter(ring.tight, ring.most, board.left, i);
+        ring.moves = wrapping_add_u32(ring.moves, board.left);
+        ring.most = most(ring.most, board.left);
     }
-    flow
+    ring
 }
 
 // A byte put k places after a place of the buffer.
@@ -206,41 +166,53 @@ fn put_head(buf: &mut [u8], kind: u8, n: u8, finish: u32, moves: u32) {
     put_word(buf, 0, 11, moves);
 }
 
-// One send's record at its link's next place.
-fn put_send(buf: &mut [u8], places: &mut [usize; 128], i: usize, direction: u8, start: u32)
+// Board i's link takes one send more.
+fn send(board: Board, i: usize, t: u32, buf: &mut [u8]) -> Board
     requires { ⌜ i < 128 ⌝ }
 {
-    let at = places[i];
+    let at = board.place;
     put(buf, at, 0, i as u8);
-    put(buf, at, 1, direction);
-    put_word(buf, at, 2, start);
-    places[i] = wrapping_add_usize(at, 6);
+    put(buf, at, 1, board.direction);
+    put_word(buf, at, 2, t);
+    let mut more = board;
+    more.left = above(board.left, 1);
+    more.end = wrapping_add_u32(t, board.cost);
+    more.place = wrapping_add_usize(at, 6);
+    more
 }
 
-fn sent(tally: Tally, end: u32) -> Tally {
-    Tally {
-        sent: wrapping_add_u32(tally.sent, 1),
-        finish: most(tally.finish, end),
-        waits: tally.waits,
-    }
-}
-
-fn waited(tally: Tally) -> Tally {
-    Tally {
-        sent: tally.sent,
-        finish: tally.finish,
-        waits: wrapping_add_u32(tally.waits, 1),
-    }
-}
-
-// Where the send on link i ends at tick t, the next board has its item.
-fn land(i: usize, next: usize, t: u32, ends: &[u32; 128], loads: &mut [u32; 128])
+// Board i at tick t sends if its link is free and it has an item.
+fn start(board: Board, i: usize, t: u32, buf: &mut [u8]) -> Board
     requires { ⌜ i < 128 ⌝ }
-    requires { ⌜ next < 128 ⌝ }
 {
-    if ends[i] == t {
-        loads[next] = wrapping_add_u32(loads[next], 1);
+    let mut more = board;
+    if t < board.end {
+        return board;
     }
+    if board.left == 0 {
+        return board;
+    }
+    if board.load == 0 {
+        more.waits = wrapping_add_u32(board.waits, 1);
+        return more;
+    }
+    more.load = above(board.load, 1);
+    send(more, i, t, buf)
+}
+
+// The sooner of a tick and of an end that comes after tick t.
+fn sooner(soon: u32, end: u32, t: u32) -> u32 {
+    if t < end { least(soon, end) } else { soon }
+}
+
+// Where the send before a board ends at tick t, the board has its item.
+fn landed(board: Board, end: u32, t: u32) -> Board {
+    if end != t {
+        return board;
+    }
+    let mut more = board;
+    more.load = wrapping_add_u32(board.load, 1);
+    more
 }
 
 // The next board of a ring of n.
@@ -251,181 +223,64 @@ fn after(i: usize, n: usize) -> usize
     if i + 1 < n { i + 1 } else { 0 }
 }
 
-// The items that arrive at tick t.
-fn land_all(n: usize, t: u32, ends: &[u32; 128], loads: &mut [u32; 128])
+// A one-way ring, from a tick at which something ends to the next: what starts, and then what arrives. Each turn after the first comes at an
+// end of a send, so there are no more turns than sends until the last one starts. The loops over the boards stand in it, since boards can't
+// be lent, and copying them at every turn is slow.
+fn play(ring: Ring, n: usize, buf: &mut [u8]) -> Ring
     requires { ⌜ n ≤ 128 ⌝ }
 {
-    for i in 0..n {
-        land(i, after(i, n), t, ends, loads);
-    }
-}
-
-// What board i can do at tick t: 0 where its link is busy or it has no more to send, 1 where it waits for an item, else 2.
-fn standing(i: usize, t: u32, ends: &[u32; 128], left: &[u32; 128], loads: &[u32; 128]) -> u8
-    requires { ⌜ i < 128 ⌝ }
-{
-    if t < ends[i] {
-        return 0;
-    }
-    if left[i] == 0 {
-        return 0;
-    }
-    if loads[i] == 0 { 1 } else { 2 }
-}
-
-fn take_one(i: usize, left: &mut [u32; 128], loads: &mut [u32; 128])
-    requires { ⌜ i < 128 ⌝ }
-{
-    left[i] = above(left[i], 1);
-    loads[i] = above(loads[i], 1);
-}
-
-// Board i sends at tick t if it can.
-fn start(
-    tally: Tally,
-    i: usize,
-    t: u32,
-    cost: u32,
-    ends: &mut [u32; 128],
-    left: &mut [u32; 128],
-    loads: &mut [u32; 128],
-    places: &mut [usize; 128],
-    buf: &mut [u8],
-) -> Tally
-    requires { ⌜ i < 128 ⌝ }
-{
-    let can = standing(i, t, ends, left, loads);
-    if can == 0 {
-        return tally;
-    }
-    if can == 1 {
-        return waited(tally);
-    }
-    let end = wrapping_add_u32(t, cost);
-    ends[i] = end;
-    take_one(i, left, loads);
-    put_send(buf, places, i, 0, t);
-    sent(tally, end)
-}
-
-fn start_all(
-    tally: Tally,
-    n: usize,
-    t: u32,
-    costs: &[u32; 128],
-    ends: &mut [u32; 128],
-    left: &mut [u32; 128],
-    loads: &mut [u32; 128],
-    places: &mut [usize; 128],
-    buf: &mut [u8],
-) -> Tally
-    requires { ⌜ n ≤ 128 ⌝ }
-{
-    let mut all = tally;
-    for i in 0..n {
-        all = start(all, i, t, costs[i], ends, left, loads, places, buf);
-    }
-    all
-}
-
-// A one-way ring tick by tick: what starts, and then what arrives at the next.
-fn play(
-    n: usize,
-    moves: u32,
-    costs: &[u32; 128],
-    left: &mut [u32; 128],
-    loads: &mut [u32; 128],
-    places: &mut [usize; 128],
-    buf: &mut [u8],
-) -> Tally
-    requires { ⌜ n ≤ 128 ⌝ }
-{
-    let mut ends = [0u32; 128];
-    let mut tally = Tally {
-        sent: 0,
-        finish: 0,
-        waits: 0,
-    };
-    for t in 0..TICKS {
-        if tally.sent == moves {
+    let mut all = ring;
+    let mut t: u32 = 0;
+    for _turn in 0..ring.moves {
+        let mut soon = u32::MAX;
+        for i in 0..n {
+            let board = start(all.boards[i], i, t, buf);
+            all.boards[i] = board;
+            soon = sooner(soon, board.end, t);
+        }
+        if soon == u32::MAX {
             break;
         }
-        tally = start_all(tally, n, t, costs, &mut ends, left, loads, places, buf);
-        land_all(n, t + 1, &ends, loads);
-    }
-    tally
-}
-
-// Link i of a two-way ring in round k of so many: forward in the first rounds, back in the last.
-fn turn(
-    tally: Tally,
-    i: usize,
-    k: u32,
-    rounds: u32,
-    tick: u32,
-    cost: u32,
-    ahead: &[u32; 128],
-    behind: &[u32; 128],
-    places: &mut [usize; 128],
-    buf: &mut [u8],
-) -> Tally
-    requires { ⌜ i < 128 ⌝ }
-{
-    if k < ahead[i] {
-        put_send(buf, places, i, 0, tick);
-        return sent(tally, wrapping_add_u32(tick, cost));
-    }
-    if k < above(rounds, behind[i]) {
-        return tally;
-    }
-    put_send(buf, places, i, 1, tick);
-    sent(tally, wrapping_add_u32(tick, cost))
-}
-
-fn turn_all(
-    tally: Tally,
-    n: usize,
-    k: u32,
-    rounds: u32,
-    tick: u32,
-    cost: u32,
-    ahead: &[u32; 128],
-    behind: &[u32; 128],
-    places: &mut [usize; 128],
-    buf: &mut [u8],
-) -> Tally
-    requires { ⌜ n ≤ 128 ⌝ }
-{
-    let mut all = tally;
-    for i in 0..n {
-        all = turn(all, i, k, rounds, tick, cost, ahead, behind, places, buf);
+        t = soon;
+        for i in 0..n {
+            let next = after(i, n);
+            let before = all.boards[i];
+            let board = all.boards[next];
+            all.boards[next] = landed(board, before.end, t);
+        }
     }
     all
 }
 
-// A two-way ring round by round.
-fn take_rounds(
-    n: usize,
-    rounds: u32,
-    cost: u32,
-    ahead: &[u32; 128],
-    behind: &[u32; 128],
-    places: &mut [usize; 128],
-    buf: &mut [u8],
-) -> Tally
+// Link i of a two-way ring at a tick with so many rounds left: forward in the first rounds, back in the last.
+fn turn(board: Board, i: usize, rounds: u32, t: u32, buf: &mut [u8]) -> Board
+    requires { ⌜ i < 128 ⌝ }
+{
+    if board.left == 0 {
+        return board;
+    }
+    if board.direction == 0 {
+        return send(board, i, t, buf);
+    }
+    if board.left < rounds {
+        return board;
+    }
+    send(board, i, t, buf)
+}
+
+// A two-way ring round by round, with the loop over the boards in it for the same reason.
+fn take_rounds(ring: Ring, n: usize, rounds: u32, cost: u32, buf: &mut [u8]) -> Ring
     requires { ⌜ n ≤ 128 ⌝ }
 {
-    let mut tally = Tally {
-        sent: 0,
-        finish: 0,
-        waits: 0,
-    };
-    let mut tick: u32 = 0;
+    let mut all = ring;
+    let mut t: u32 = 0;
     for k in 0..rounds {
-        tally = turn_all(tally, n, k, rounds, tick, cost, ahead, behind, places, buf);
-        tick = wrapping_add_u32(tick, cost);
+        for i in 0..n {
+            all.boards[i] = turn(all.boards[i], i, rounds - k, t, buf);
+        }
+        t = wrapping_add_u32(t, cost);
     }
-    tally
+    all
 }
 
 fn refused(number: u8, board: u8) -> Answer {
@@ -440,72 +295,43 @@ fn refused(number: u8, board: u8) -> Answer {
     }
 }
 
-// The number taken from every S, raised as S is.
-fn offset_of(kind: u8, low: u32, high: u32) -> u32 {
-    if kind == 3 {
-        wrapping_add_u32(low, above(high, low) / 2)
-    } else {
-        low
-    }
-}
-
-// The sends of an accepted ring, each record at its place.
-fn all_sent(kind: u8, n: usize, sums: Sums, flow: Flow, buf: &mut [u8]) -> Tally
+// What the boards after a play come to.
+fn answer_of(ring: Ring, n: usize) -> Answer
     requires { ⌜ n ≤ 128 ⌝ }
 {
-    let costs = sums.costs;
-    let ahead = flow.ahead;
-    let behind = flow.behind;
-    let mut places = flow.places;
-    if kind == 3 {
-        let rounds = most(
-            sums.widest,
-            wrapping_add_u32(above(sums.high, sums.low), 1) / 2,
-        );
-        return take_rounds(n, rounds, costs[0], &ahead, &behind, &mut places, buf);
+    let mut answer = refused(0, 0);
+    answer.moves = ring.moves;
+    answer.tight = ring.tight;
+    for i in 0..n {
+        let board = ring.boards[i];
+        answer.finish = most(answer.finish, board.end);
+        answer.waits = wrapping_add_u32(answer.waits, board.waits);
+        answer.left = wrapping_add_u32(answer.left, board.left);
     }
-    let mut loads = sums.loads;
-    let mut left = ahead;
-    play(
-        n,
-        flow.moves,
-        &costs,
-        &mut left,
-        &mut loads,
-        &mut places,
-        buf,
-    )
+    answer
 }
 
-// The plan of an accepted ring, into bytes that have room for it.
-fn planned(kind: u8, n: u8, sums: Sums, flow: Flow, buf: &mut [u8]) -> Answer {
-    let tally = all_sent(kind, boards(n), sums, flow, buf);
-    put_head(buf, kind, n, tally.finish, flow.moves);
-    Answer {
-        number: 0,
-        board: 0,
-        finish: tally.finish,
-        moves: flow.moves,
-        tight: flow.tight,
-        waits: tally.waits,
-        left: wrapping_sub_u32(flow.moves, tally.sent),
+// The ring after its sends, each record at its place.
+fn played(job: Job, sums: Sums, ring: Ring, buf: &mut [u8]) -> Ring {
+    let n = boards(job.n);
+    if job.kind == 3 {
+        let half = wrapping_add_u32(above(sums.high, sums.low), 1) / 2;
+        return take_rounds(ring, n, most(sums.widest, half), job.costs[0], buf);
     }
+    play(ring, n, buf)
 }
 
 // The plan of a job. Number 12 is never given: no ring within the limits has a finish of more than 32 bits.
-pub(crate) fn plan(s: &[u8], buf: &mut [u8]) -> Answer {
-    let job = hop::read(s);
-    let check = job.answer;
-    match check {
-        Check::Refused { number, board } => refused(number, board),
-        Check::Ring { kind, n } => {
-            let sums = sums_of(s, boards(n));
-            let each = sums.sums;
-            let flow = flow_of(boards(n), &each, offset_of(kind, sums.low, sums.high));
-            if buf.len() < length(flow.moves) {
-                return refused(13, 0);
-            }
-            planned(kind, n, sums, flow, buf)
-        }
+pub(crate) fn plan(job: Job, buf: &mut [u8]) -> Answer {
+    if job.number != 0 {
+        return refused(job.number, job.board);
     }
+    let sums = sums_of(job);
+    let ring = ring_of(job, sums);
+    if buf.len() < length(ring.moves) {
+        return refused(13, 0);
+    }
+    let answer = answer_of(played(job, sums, ring, buf), boards(job.n));
+    put_head(buf, job.kind, job.n, answer.finish, answer.moves);
+    answer
 }

@@ -16,17 +16,32 @@ loop-holds c = search needs
 load-of-requires : tie.Need-load-of-requires Inv-loop μ-loop
 load-of-requires c κs = search needs
 
-cost-of-requires : tie.Need-cost-of-requires Inv-loop μ-loop
-cost-of-requires c κs = search needs
-
 add-around : tie.Need-add-around Inv-loop μ-loop
 add-around c = search needs
 
 around-requires : tie.Need-around-requires Inv-loop μ-loop
 around-requires c κs = search needs
 
-with-board-requires : tie.Need-with-board-requires Inv-loop μ-loop
-with-board-requires c κs = search needs
+mul-ring : tie.Need-mul-ring Inv-loop μ-loop
+mul-ring c = search needs
+
+element-write-ring : tie.Need-element-write-ring Inv-loop μ-loop
+element-write-ring c = search needs
+
+mul-ring-2 : tie.Need-mul-ring-2 Inv-loop μ-loop
+mul-ring-2 c = search needs
+
+element-write-ring-2 : tie.Need-element-write-ring-2 Inv-loop μ-loop
+element-write-ring-2 c = search needs
+
+cost-of-requires : tie.Need-cost-of-requires Inv-loop μ-loop
+cost-of-requires c κs = search needs
+
+mul-ring-3 : tie.Need-mul-ring-3 Inv-loop μ-loop
+mul-ring-3 c = search needs
+
+element-write-ring-3 : tie.Need-element-write-ring-3 Inv-loop μ-loop
+element-write-ring-3 c = search needs
 
 add-k : tie.Need-add-k Inv-loop μ-loop
 add-k c = search needs
@@ -48,10 +63,15 @@ at-rest-spec =
     μ-loop
     loop-holds
     load-of-requires
-    cost-of-requires
     add-around
     around-requires
-    with-board-requires
+    mul-ring
+    element-write-ring
+    mul-ring-2
+    element-write-ring-2
+    cost-of-requires
+    mul-ring-3
+    element-write-ring-3
     add-k
     loop-less
     loop-again

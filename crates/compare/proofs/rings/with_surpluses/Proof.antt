@@ -5,10 +5,16 @@ use Rattle.compare.proofs.rings.with_surpluses.Statement.{statement}
 use Rattle.compare.proofs.rings.with_surpluses.Tie as tie
 
 abbrev Inv-loop : tie.InvT-loop
-Inv-loop seed₀ style n turns ring₀ mark -k₀ seed ring -k = -k ≤ turns
+Inv-loop seed₀ style n turns ring₀ mark items -k₀ seed ring -k = -k ≤ turns
 
 abbrev μ-loop : tie.MeasureT-loop
-μ-loop seed₀ style n turns ring₀ mark -k₀ seed ring -k = turns - -k
+μ-loop seed₀ style n turns ring₀ mark items -k₀ seed ring -k = turns - -k
+
+mul-items : tie.Need-mul-items Inv-loop μ-loop
+mul-items c = search needs
+
+array-read-items : tie.Need-array-read-items Inv-loop μ-loop
+array-read-items c = search needs
 
 loop-holds : tie.Need-loop-holds Inv-loop μ-loop
 loop-holds c = search needs
@@ -52,6 +58,8 @@ with-surpluses-spec =
     (tie.spec
     Inv-loop
     μ-loop
+    mul-items
+    array-read-items
     loop-holds
     draw-place-requires
     add-around

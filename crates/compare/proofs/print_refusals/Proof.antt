@@ -1,8 +1,8 @@
 -- Every number is passed once.
 use borrow.Author.Needs.{needs}
 use Prim.Native.Nat.{_≤_, _-_}
-use Rattle.compare.proofs.refusals.Statement.{statement}
-use Rattle.compare.proofs.refusals.Tie as tie
+use Rattle.compare.proofs.print_refusals.Statement.{statement}
+use Rattle.compare.proofs.print_refusals.Tie as tie
 
 abbrev Inv-loop : tie.InvT-loop
 Inv-loop refused i₀ i = i ≤ 12
@@ -34,11 +34,17 @@ loop-less c = search needs
 loop-again : tie.Need-loop-again Inv-loop μ-loop
 loop-again c = search needs
 
+array-read-refusal-2 : tie.Need-array-read-refusal-2 Inv-loop μ-loop
+array-read-refusal-2 c = search needs
+
+refusal-requires-2 : tie.Need-refusal-requires-2 Inv-loop μ-loop
+refusal-requires-2 c κs = search needs
+
 returns : tie.Need-returns Inv-loop μ-loop
 returns c = search needs
 
-pub refusals-spec : {M : Type 1} → statement M
-refusals-spec =
+pub print-refusals-spec : {M : Type 1} → statement M
+print-refusals-spec =
     tie.close
     (tie.spec
     Inv-loop
@@ -51,4 +57,6 @@ refusals-spec =
     add-i
     loop-less
     loop-again
+    array-read-refusal-2
+    refusal-requires-2
     returns)
