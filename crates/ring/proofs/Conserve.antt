@@ -14,7 +14,7 @@ use Rattle.ring.specs.Boards.{Ring, Accepted, next}
 use Rattle.ring.specs.Schedule.{Send, sender, receiver, lasts, ends, sentBefore, receivedBy, loadAt, inFlight, finish, Allowed, Valid}
 use Rattle.ring.proofs.Tests.{le-lt, both-true}
 use Rattle.ring.proofs.Sums.{sum-eq, sum-add, sum-at}
-use Rattle.ring.proofs.Totals.{each-all, each-map, each-map₂, two-map, total-eq, total-le, total-zero, total-split, sum-total, count-with, count-some}
+use Rattle.ring.proofs.Totals.{count-step, count-none, each-all, each-map, each-map₂, two-map, total-eq, total-le, total-split, sum-total, count-with, count-some}
 use Rattle.ring.proofs.Packing.{packed}
 use Rattle.ring.proofs.Neighbours.{next-below}
 use Rattle.ring.proofs.Finish.{finish-each, lasting}
@@ -26,7 +26,7 @@ sum-one m b k h =
 
 module _ (r : Ring) where
   -- each send is of one board, and to one board
-  of-board : (s : Send) → Allowed r s → (b : Bool) → (pick b (s .link) (next (r .n) (s .link)) < r .n) × (pick b (next (r .n) (s .link)) (s .link) < r .n)
+  pub of-board : (s : Send) → Allowed r s → (b : Bool) → (pick b (s .link) (next (r .n) (s .link)) < r .n) × (pick b (next (r .n) (s .link)) (s .link) < r .n)
   of-board s a true = (a .0, next-below (r .n) (s .link) (a .0))
   of-board s a false = (next-below (r .n) (s .link) (a .0), a .0)
 
@@ -49,26 +49,10 @@ module _ (r : Ring) where
         (each-all (λ s e. omega arith) σ)
 
     sent-none : (i : ℕ) → sentBefore r σ i 0 ≡ 0
-    sent-none i = total-zero _ σ (each-all (λ s. at (eqb (sender r s) i) (s .start)) σ)
-      where
-        at : (b : Bool) (m : ℕ) → one-if (both b (ltb m 0)) ≡ 0
-        at false m = refl
-        at true m = rw (le-ltb m 0 (omega arith))
+    sent-none i = count-none (λ s. eqb (sender r s) i) (λ s. s .start) σ
 
     sent-step : (i t : ℕ) → sentBefore r σ i (suc t) ≡ sentBefore r σ i t + count (startsAt i t) σ
-    sent-step i t = total-split _ _ _ σ (each-all (λ s. at (eqb (sender r s) i) (s .start)) σ)
-      where
-        at : (b : Bool) (m : ℕ) → one-if (both b (ltb m (suc t))) ≡ one-if (both b (ltb m t)) + one-if (both b (eqb m t))
-        at false m = refl
-        at true m =
-            elim (le-lt t m) [
-              | inl l ↦
-                  elim (le-lt m t) [
-                    | inl k ↦ rw (lt-ltb m (suc t) (omega arith), le-ltb m t l, eq-eqb m t (omega arith))
-                    | inr k ↦ rw (le-ltb m (suc t) k, le-ltb m t l, ne-eqb m t (omega arith))
-                  ]
-              | inr l ↦ rw (lt-ltb m (suc t) (omega arith), lt-ltb m t l, ne-eqb m t (omega arith))
-            ]
+    sent-step i t = count-step (λ s. eqb (sender r s) i) (λ s. s .start) t σ
 
     received-step : (i t : ℕ) → receivedBy r σ i t ≤ receivedBy r σ i (suc t)
     received-step i t = total-le _ _ σ (each-all (λ s. at (eqb (receiver r s) i) (ends r s)) σ)
@@ -81,15 +65,22 @@ module _ (r : Ring) where
               | inr l ↦ rw (lt-leb m t l) (omega arith)
             ]
 
-    pub never-below : (i t : ℕ) → sentBefore r σ i t ≤ r .load i + receivedBy r σ i t
+    -- what has been sent through tick t was there by tick t
+    over : (i t : ℕ) → sentBefore r σ i t ≤ r .load i + receivedBy r σ i t → sentBefore r σ i (suc t) ≤ r .load i + receivedBy r σ i t
     unfolding loadAt
-    never-below i zero = omega (arith, sent-none i)
-    never-below i (suc t) =
+    over i t h =
         elim (count-some (startsAt i t) (r .load i + receivedBy r σ i t - sentBefore r σ i t) σ
         (each-map (λ s h e. let x = starts-is i t s e in rw (← (x .0), ← (x .1)) h) σ (v .held))) [
-          | inl e ↦ omega (arith, never-below i t, sent-step i t, received-step i t)
-          | inr l ↦ omega (arith, sent-step i t, received-step i t, starts-one i t)
+          | inl e ↦ omega (arith, sent-step i t)
+          | inr l ↦ omega (arith, sent-step i t, starts-one i t)
         ]
+
+    pub never-below : (i t : ℕ) → sentBefore r σ i t ≤ r .load i + receivedBy r σ i t
+    never-below i zero = omega (arith, sent-none i)
+    never-below i (suc t) = omega (arith, over i t (never-below i t), received-step i t)
+
+    pub never-over : (i t : ℕ) → sentBefore r σ i (suc t) ≤ r .load i + receivedBy r σ i t
+    never-over i t = over i t (never-below i t)
 
     load-exact : (i t : ℕ) → loadAt r σ i t + sentBefore r σ i t ≡ r .load i + receivedBy r σ i t
     unfolding loadAt

@@ -65,7 +65,7 @@ module _ (r : Ring) where
 
   module _ (σ : List Send) (v : Valid r σ) where
     -- what comes to a board and what leaves it
-    flow : (i : ℕ) → i < r .n → r .load i + fore σ (prev (r .n) i) + hind σ i ≡ r .after i + fore σ i + hind σ (prev (r .n) i)
+    pub flow : (i : ℕ) → i < r .n → r .load i + fore σ (prev (r .n) i) + hind σ i ≡ r .after i + fore σ i + hind σ (prev (r .n) i)
     flow i h = omega (arith, v .left i h, sent σ (v .allowed) i h, received σ (v .allowed) i h)
 
     -- the same of boards 0 to i together

@@ -77,14 +77,14 @@ module _ (r : Ring) (o : ℕ) where
       this true = rw (eq-eqb l l refl)
       this false = sum-zero _ (carries r o l) (λ j m. refl)
 
-  fore-count : (l : ℕ) (q : Send → Bool) → l < r .n → count (λ s. both (along 0 l s) (q s)) (plan r o) ≡ passing q l (ahead r o l)
+  pub fore-count : (l : ℕ) (q : Send → Bool) → l < r .n → count (λ s. both (along 0 l s) (q s)) (plan r o) ≡ passing q l (ahead r o l)
   fore-count l q h = along-count 0 l q h ∙ ap (passing q l) (go (link-is l))
     where
       go : Fore l ⊎ Hind l → pick (eqb (directionOf r o l) 0) (carries r o l) 0 ≡ ahead r o l
       go (inl f) = rw (f .direction, f .none) (omega arith)
       go (inr b) = rw (b .direction, b .none)
 
-  hind-count : (l : ℕ) (q : Send → Bool) → l < r .n → count (λ s. both (along 1 l s) (q s)) (plan r o) ≡ passing q l (behind r o l)
+  pub hind-count : (l : ℕ) (q : Send → Bool) → l < r .n → count (λ s. both (along 1 l s) (q s)) (plan r o) ≡ passing q l (behind r o l)
   hind-count l q h = along-count 1 l q h ∙ ap (passing q l) (go (link-is l))
     where
       go : Fore l ⊎ Hind l → pick (eqb (directionOf r o l) 1) (carries r o l) 0 ≡ behind r o l

@@ -2,11 +2,11 @@
 use mathlib.Core.Path.{_≡_, refl, sym, _∙_}
 use mathlib.Core.Bool.{Bool, true, false}
 use mathlib.Core.Logic.{_⊎_, inl, inr}
-use Prim.Native.Nat.{ℕ, _+_, _≤_, _<_}
+use Prim.Native.Nat.{ℕ, suc, _+_, _≤_, _<_}
 use native.Mathlib.Decide.{decLe}
 use native.Mathlib.Omega.{arith}
-use lib.Dec.{eqb, leb}
-use borrow.Author.Tests.{eqb-true, eqb-false, eq-eqb, ne-eqb, le-leb, lt-leb}
+use lib.Dec.{eqb, ltb, leb}
+use borrow.Author.Tests.{eqb-true, eqb-false, eq-eqb, ne-eqb, le-leb, lt-leb, le-ltb, lt-ltb}
 use Rattle.ring.specs.Numbers.{both, one-if}
 
 -- a case split on an order
@@ -48,3 +48,16 @@ one-if-le false = omega arith
 pub one-of-two : (a b c q : Bool) → one-if a ≡ one-if b + one-if c → one-if (both a q) ≡ one-if (both b q) + one-if (both c q)
 one-of-two a b c true e = rw (both-with a true refl, both-with b true refl, both-with c true refl) e
 one-of-two a b c false e = rw (both-without a false refl, both-without b false refl, both-without c false refl)
+
+-- one more tick: what is below it was below before, or is there
+pub one-more : (t : ℕ) (b : Bool) (m : ℕ) → one-if (both b (ltb m (suc t))) ≡ one-if (both b (ltb m t)) + one-if (both b (eqb m t))
+one-more t false m = refl
+one-more t true m =
+    elim (le-lt t m) [
+      | inl l ↦
+          elim (le-lt m t) [
+            | inl k ↦ rw (lt-ltb m (suc t) (omega arith), le-ltb m t l, eq-eqb m t (omega arith))
+            | inr k ↦ rw (le-ltb m (suc t) k, le-ltb m t l, ne-eqb m t (omega arith))
+          ]
+      | inr l ↦ rw (lt-ltb m (suc t) (omega arith), lt-ltb m t l, ne-eqb m t (omega arith))
+    ]

@@ -5,10 +5,12 @@ use mathlib.Core.Bool.{Bool, true, false}
 use mathlib.Core.Logic.{_⊎_, inl, inr}
 use Prim.Native.Nat.{ℕ, zero, suc, _+_, _*_, _≤_}
 use native.Mathlib.Omega.{arith}
+use lib.Dec.{eqb, ltb}
 use lib.ListN.{length}
+use borrow.Author.Tests.{le-ltb}
 use Rattle.ring.specs.Numbers.{both, one-if, sum}
 use Rattle.ring.specs.Lists.{Each, EachTwo, total, count}
-use Rattle.ring.proofs.Tests.{both-with}
+use Rattle.ring.proofs.Tests.{both-with, both-without, one-more}
 
 module _ {A : Type 0} where
   -- each
@@ -99,3 +101,19 @@ module _ {A : Type 0} where
       go true e k = inr (h .0 e)
       go false e (inl k) = inl (omega arith)
       go false e (inr k) = inr k
+
+-- those before t + 1 are those before t and those at t
+pub count-step : {A : Type 0} (p : A → Bool) (when : A → ℕ) (t : ℕ) (xs : List A)
+    → count (λ x. both (p x) (ltb (when x) (suc t))) xs ≡ count (λ x. both (p x) (ltb (when x) t)) xs + count (λ x. both (p x) (eqb (when x) t)) xs
+count-step p when t xs = total-split _ _ _ xs (each-all (λ x. one-more t (p x) (when x)) xs)
+
+pub count-none : {A : Type 0} (p : A → Bool) (when : A → ℕ) (xs : List A) → count (λ x. both (p x) (ltb (when x) 0)) xs ≡ 0
+count-none p when xs = total-zero _ xs (each-all (λ x. ap one-if (both-without (p x) (ltb (when x) 0) (le-ltb (when x) 0 (omega arith)))) xs)
+
+-- a part of a list, and one more
+pub count-part : {A : Type 0} (p : A → Bool) (xs ys zs : List A) → xs ++ ys ≡ zs → count p xs ≤ count p zs
+count-part p xs ys zs e = omega (arith, total-append (λ x. one-if (p x)) xs ys, ap (count p) e)
+
+pub count-more : {A : Type 0} (p : A → Bool) (xs : List A) (x : A) → count p (xs ++ x ∷ []) ≡ count p xs + one-if (p x)
+unfolding total
+count-more p xs x = omega (arith, total-append (λ y. one-if (p y)) xs (x ∷ []))

@@ -4,5 +4,6 @@ pub mod Boards
 pub mod Limits
 pub mod Schedule
 pub mod Plan
+pub mod Columns
 pub mod Bytes
 pub mod Worked

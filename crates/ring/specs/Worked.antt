@@ -1,4 +1,5 @@
 -- Document 01, "Rings worked by hand": the rings marked *, each with what the document says of it, and the test that it is so.
+-- With the rings A, B, C2, F, G and H the columns that document 02's order 1 asks for, worked by hand too.
 use mathlib.Core.Bool.{Bool, true, false}
 use mathlib.Core.List.{List, [], _∷_, map}
 use Prim.Native.Nat.{ℕ, zero, suc}
@@ -11,6 +12,7 @@ use Rattle.ring.specs.Boards.{Ring, ringIn}
 use Rattle.ring.specs.Schedule.{loadAt, inFlight, finish}
 use Rattle.ring.specs.Plan.{offset, f, rounds, startOf, directionOf, carries, plan, finishOf, moves, tight}
 use Rattle.ring.specs.Bytes.{planBytesBy}
+use Rattle.ring.specs.Columns.{stretch, N, played, begins}
 
 -- one thing that is said of a ring's plan
 pub data Says : Type 0 where
@@ -31,6 +33,8 @@ pub data Says : Type 0 where
   -- the moves, and the tight link
   sent : ℕ → Says
   tightest : ℕ → Says
+  -- a board, and the columns that it ends with: those that are there when the plan has been played, and the stretch that order 1 asks for
+  columns : ℕ → List ℕ → Says
 
 -- a ring, and what is said of it
 pub record Row : Type 0 where
@@ -69,6 +73,7 @@ holds r o (flying t k) = eqb (inFlight r (plan r o) t) k
 holds r o (bytes k) = eqb (length (planBytesBy r o)) k
 holds r o (sent k) = both (eqb (moves r o) k) (eqb (length (plan r o)) k)
 holds r o (tightest i) = eqb (tight r o) i
+holds r o (columns i xs) = both (alike (played r (plan r o) .board i) xs) (alike (stretch (N r) (begins r o i) (r .after i)) xs)
 
 -- all that is said of each ring holds
 abbrev pub allHold : List Row → Bool
@@ -92,6 +97,7 @@ worked =
           items (ints (3 ∷ 3 ∷ 1 ∷ 0 ∷ [])) ∷ ending 9 ∷ sent 7 ∷ tightest 0
           ∷ forward 0 (0 ∷ 2 ∷ 4 ∷ []) ∷ forward 1 (0 ∷ 3 ∷ 6 ∷ []) ∷ forward 2 (0 ∷ []) ∷ forward 3 []
           ∷ loads 3 (3 ∷ 1 ∷ 1 ∷ 3 ∷ []) ∷ flying 3 1
+          ∷ columns 0 (0 ∷ 1 ∷ []) ∷ columns 1 (2 ∷ []) ∷ columns 2 (3 ∷ 4 ∷ 5 ∷ []) ∷ columns 3 (6 ∷ 7 ∷ 8 ∷ [])
           ∷ [];
     }
     ∷ record {
@@ -99,6 +105,7 @@ worked =
       says =
           items (pos 2 ∷ pos 0 ∷ minus 1 ∷ minus 2 ∷ []) ∷ T 4 ∷ ending 20
           ∷ forward 0 (0 ∷ 5 ∷ []) ∷ forward 1 [] ∷ back 2 (15 ∷ []) ∷ back 3 (10 ∷ 15 ∷ [])
+          ∷ columns 0 (2 ∷ 3 ∷ []) ∷ columns 1 (4 ∷ 5 ∷ 6 ∷ []) ∷ columns 2 (7 ∷ 8 ∷ []) ∷ columns 3 (0 ∷ 1 ∷ [])
           ∷ [];
     }
     ∷ record {
@@ -107,7 +114,7 @@ worked =
     }
     ∷ record {
       ring = ringIn 1 2 (1 ∷ 2 ∷ []) (minus 1 ∷ pos 1 ∷ []) (7 ∷ 7 ∷ []);
-      says = items (ints (0 ∷ 1 ∷ [])) ∷ ending 7 ∷ [];
+      says = items (ints (0 ∷ 1 ∷ [])) ∷ ending 7 ∷ columns 0 (2 ∷ 0 ∷ []) ∷ columns 1 (1 ∷ []) ∷ [];
     }
     ∷ record {
       ring = ringIn 2 2 (2 ∷ 1 ∷ []) (pos 1 ∷ minus 1 ∷ []) (1 ∷ 100 ∷ []);
@@ -119,16 +126,20 @@ worked =
     }
     ∷ record {
       ring = ringIn 1 3 (2 ∷ 1 ∷ 1 ∷ []) (pos 1 ∷ pos 0 ∷ minus 1 ∷ []) (1 ∷ 1 ∷ 1 ∷ []);
-      says = items (ints (1 ∷ 1 ∷ 0 ∷ [])) ∷ ending 1 ∷ forward 1 (0 ∷ []) ∷ [];
+      says = items (ints (1 ∷ 1 ∷ 0 ∷ [])) ∷ ending 1 ∷ forward 1 (0 ∷ []) ∷ columns 0 (0 ∷ []) ∷ columns 1 (1 ∷ []) ∷ columns 2 (2 ∷ 3 ∷ []) ∷ [];
     }
     ∷ record {
       ring =
           ringIn 3 6 (3 ∷ 3 ∷ 3 ∷ 1 ∷ 1 ∷ 1 ∷ []) (pos 2 ∷ pos 2 ∷ pos 2 ∷ minus 2 ∷ minus 2 ∷ minus 2 ∷ [])
           (1 ∷ 1 ∷ 1 ∷ 1 ∷ 1 ∷ 1 ∷ []);
-      says = items (minus 1 ∷ pos 1 ∷ pos 3 ∷ pos 1 ∷ minus 1 ∷ minus 3 ∷ []) ∷ ending 3 ∷ [];
+      says =
+          items (minus 1 ∷ pos 1 ∷ pos 3 ∷ pos 1 ∷ minus 1 ∷ minus 3 ∷ []) ∷ ending 3
+          ∷ columns 0 (3 ∷ []) ∷ columns 1 (4 ∷ []) ∷ columns 2 (5 ∷ [])
+          ∷ columns 3 (6 ∷ 7 ∷ 8 ∷ []) ∷ columns 4 (9 ∷ 10 ∷ 11 ∷ []) ∷ columns 5 (0 ∷ 1 ∷ 2 ∷ [])
+          ∷ [];
     }
     ∷ record {
       ring = ringIn 3 3 (4 ∷ 1 ∷ 1 ∷ []) (pos 3 ∷ minus 2 ∷ minus 1 ∷ []) (1 ∷ 1 ∷ 1 ∷ []);
-      says = items (pos 2 ∷ pos 0 ∷ minus 1 ∷ []) ∷ ending 3 ∷ [];
+      says = items (pos 2 ∷ pos 0 ∷ minus 1 ∷ []) ∷ ending 3 ∷ columns 0 (1 ∷ []) ∷ columns 1 (2 ∷ 3 ∷ 4 ∷ []) ∷ columns 2 (5 ∷ 0 ∷ []) ∷ [];
     }
     ∷ []
