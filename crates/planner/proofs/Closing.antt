@@ -18,17 +18,16 @@ use Rattle.ring.proofs.Bounds.{moves-most}
 use Rattle.ring.proofs.Demand3.{plan-is-valid, finish-is, none-sooner, moves-is, in-order, ends-with, finish-fits}
 use Rattle.hop.specs.declared.Check.the-variants.{Ring as Read, Refused as Unread}
 use Rattle.hop.specs.declared.Job.{Job}
-use Rattle.hop.specs.Answers.{numberIn, boardIn, ofCheck}
 use Rattle.hop.specs.Read.{jobOf}
 use Rattle.hop.proofs.Accepted.{job-accepted, after-is}
 use Rattle.planner.specs.declared.Planned.{Planned}
 use Rattle.planner.specs.declared.Planned.the-variants.{Plan, Refused}
 use Rattle.ring.specs.Bytes.{InOrder, planHead, recordsOf}
 use Rattle.planner.specs.PlanBytes.{planBytes, planLength, finishIn, movesIn, planIn}
-use Rattle.planner.specs.Answer.{answerFor, ringFor, planAnswer, planMemory}
+use Rattle.planner.specs.Answer.{answerFor, memoryFor, ringFor, planAnswer, planMemory}
 use Rattle.planner.proofs.Bytes.{head-long, records-long, link-begins}
 use Rattle.planner.proofs.ReadBack.{fitting, finish-back, moves-back, plan-back}
-use Rattle.planner.proofs.Reading.{unread-answer, unread-memory, read-answer, read-memory}
+use Rattle.planner.proofs.Reading.{answer-known, memory-known}
 
 -- the answer p, and the buffer ys that held xs, where the job is ring r and the buffer has room for its plan. `planIn ys` are the sends
 -- that the buffer's bytes say
@@ -106,18 +105,19 @@ module _ (s xs : List ℕ) where
         let r = ringFor (jobOf s) kind n in
         let ok = job-accepted s kind n read in
         let a = has-room r ok xs room in
-        let p : planAnswer (jobOf s) (length xs) ≡ Plan (finishOf r (offset r)) (moves r (offset r)) (tight r (offset r)) = sym (read-answer s (jobOf s) refl kind n read (length xs)) ∙ a in
-        let m : planMemory (jobOf s) xs ≡ planBytes r ++ drop (planLength r) xs = sym (read-memory s (jobOf s) refl kind n read xs (Plan (finishOf r (offset r)) (moves r (offset r)) (tight r (offset r))) (sym a)) in
+        let p : planAnswer (jobOf s) (length xs) ≡ Plan (finishOf r (offset r)) (moves r (offset r)) (tight r (offset r)) = sym (answer-known s (jobOf s) refl (Read kind n) read (length xs)) ∙ a in
+        let m : planMemory (jobOf s) xs ≡ planBytes r ++ drop (planLength r) xs = sym (memory-known s (jobOf s) refl (Read kind n) read xs) ∙ ap (λ (q : Planned). memoryFor r q xs) a in
         subst (λ (q : Planned). Closed (jobOf s) r xs (planMemory (jobOf s) xs) q) (sym p)
         (subst (λ (ys : List ℕ). Closed (jobOf s) r xs ys (Plan (finishOf r (offset r)) (moves r (offset r)) (tight r (offset r)))) (sym m) (laid r ok xs (jobOf s) (after-is s kind n read) room))
 
     -- "13: result longer than the lent byte buffer"; "every lent buffer keeps its bytes"
     pub no-room : length xs < planLength (ringFor (jobOf s) kind n) → (planAnswer (jobOf s) (length xs) ≡ Refused 13 0) × (planMemory (jobOf s) xs ≡ xs)
     no-room room =
-        let a = short (ringFor (jobOf s) kind n) (job-accepted s kind n read) xs room in
-        (sym (read-answer s (jobOf s) refl kind n read (length xs)) ∙ a, sym (read-memory s (jobOf s) refl kind n read xs (Refused 13 0) (sym a)))
+        let r = ringFor (jobOf s) kind n in
+        let a = short r (job-accepted s kind n read) xs room in
+        (sym (answer-known s (jobOf s) refl (Read kind n) read (length xs)) ∙ a, sym (memory-known s (jobOf s) refl (Read kind n) read xs) ∙ ap (λ (q : Planned). memoryFor r q xs) a)
 
   -- "A refused job stops the planner at once with that number."
   pub stops : (number board : ℕ) → jobOf s .answer ≡ Unread number board → (planAnswer (jobOf s) (length xs) ≡ Refused number board) × (planMemory (jobOf s) xs ≡ xs)
   stops number board read =
-      (sym (unread-answer s (jobOf s) refl number board read (length xs)) ∙ (λ t. Refused (numberIn (ofCheck (read t))) (boardIn (ofCheck (read t)))), sym (unread-memory s (jobOf s) refl number board read xs))
+      (sym (answer-known s (jobOf s) refl (Unread number board) read (length xs)), sym (memory-known s (jobOf s) refl (Unread number board) read xs))

@@ -1,18 +1,19 @@
 -- The numbers of a plan, put together from what each step gives. Assumes nothing.
 use mathlib.Core.Path.{_≡_, ap, _∙_}
 use mathlib.Core.List.{List}
-use Prim.Native.Nat.{ℕ, _+_, _*_, _-_, _/_, _≤_, _<_, max}
+use Prim.Native.Nat.{ℕ, suc, _+_, _*_, _-_, _/_, _≤_, _<_, max}
 use native.Mathlib.Omega.{arith}
 use lib.Dec.{eqb}
 use lib.IntN.{ℤ}
 use lib.ListN.{length, getD}
 use Rattle.ring.specs.declared.Ticks.{Ticks}
-use Rattle.ring.specs.Numbers.{pick, greatest}
+use Rattle.ring.specs.Numbers.{pick, sum, greatest}
 use Rattle.ring.specs.Lists.{fill}
 use Rattle.ring.specs.Boards.{Ring, Accepted, mostLoad}
 use Rattle.ring.specs.Plan.{level, low, high, offset, rounds, surplusSize, finishOf}
+use Rattle.ring.specs.Columns.{N}
 use Rattle.ring.proofs.Fill.{fill-at, fill-length}
-use Rattle.ring.proofs.Level.{low-le, le-high, spread}
+use Rattle.ring.proofs.Level.{level-is, low-le, le-high, spread}
 use Rattle.ring.proofs.Offset.{fits}
 use Rattle.ring.proofs.Bounds.{items-most, carries-most}
 use Rattle.planner.specs.declared.sums.Span.{Span}
@@ -35,6 +36,13 @@ board-held l i h =
 module _ (r : Ring) (ok : Accepted r) (was xs : List ℕ) (room : r .n ≤ length was) (levels : xs ≡ fill (level r) (r .n) was) where
   pub level-at : (i : ℕ) → i < r .n → getD xs i 0 ≡ level r i
   level-at i h = rw levels (fill-at (level r) was 0 (r .n) i h room)
+
+  -- the level of the last link is the total of the loads
+  pub last-level : getD xs (r .n - 1) 0 ≡ N r
+  last-level =
+      let h : r .n - 1 < r .n = omega (arith, ok .boards) in
+      let e : suc (r .n - 1) ≡ r .n = omega arith in
+      omega (arith, level-at (r .n - 1) h, level-is r (r .n - 1) h, ap (sum (r .load)) e, ap (sum (r .after)) e)
 
   pub levels-long : r .n ≤ length xs
   levels-long = rw levels (omega (arith, fill-length (level r) was 0 (r .n)))

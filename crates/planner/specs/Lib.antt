@@ -1,6 +1,7 @@
 pub mod PlanBytes
 pub mod Answer
 pub mod Traffic
+pub mod Turn
 pub mod Outline
 pub mod Runs
 pub mod RunSteps

@@ -12,12 +12,14 @@ mod links;
 mod records;
 mod runs;
 mod sums;
+mod turning;
 
 pub use crossings::traffic_of;
 use hop::Check;
 use hop::MOST_BOARDS;
 use ring::Items;
 use ring::Ticks;
+pub use turning::turn_of;
 
 // A plan's numbers, or why there is none.
 pub enum Planned {
@@ -29,6 +31,12 @@ pub enum Planned {
 pub struct Traffic {
     pub sends: [u32; MOST_BOARDS],
     pub receives: [u32; MOST_BOARDS],
+}
+
+// How many columns the boards have in all, and the one that board 0 begins with after the plan.
+pub struct Turn {
+    pub columns: u32,
+    pub first: u32,
 }
 
 // The refusal of a check that is no ring.

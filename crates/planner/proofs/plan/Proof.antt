@@ -1,7 +1,9 @@
 -- `plan`: a refused job stops here, a ring's plan is written by `plan_ring`. Assumes nothing.
-use mathlib.Core.Path.{_∙_}
+use mathlib.Core.Path.{ap, _∙_}
 use lib.ListN.{length}
-use Rattle.planner.proofs.Reading.{unread-answer, unread-memory, lent, read-answer, read-memory}
+use Rattle.planner.specs.declared.Planned.{Planned}
+use Rattle.planner.specs.Answer.{ringFor, memoryFor}
+use Rattle.planner.proofs.Reading.{answer-known, memory-known, stopped-answer, lent}
 use borrow.Author.Needs.{needs}
 use Rattle.planner.proofs.plan.Statement.{statement}
 use Rattle.planner.proofs.plan.Tie as tie
@@ -24,8 +26,8 @@ returns c =
     let r = t .before .before in
     let a = r .before .before .before .args in
     let told = t .enum-told .given in (
-      c .stopped .ensures ∙ unread-answer (a .s .now) (r .read .result) (r .read .ensures) (told .0 .0) (told .0 .1 .0) (told .1) (length (a .buf .now)),
-      unread-memory (a .s .now) (r .read .result) (r .read .ensures) (told .0 .0) (told .0 .1 .0) (told .1) (a .buf .now),
+      c .stopped .ensures ∙ stopped-answer (a .s .now) (r .read .result) (r .read .ensures) (told .0 .0) (told .0 .1 .0) (told .1) (length (a .buf .now)),
+      memory-known (a .s .now) (r .read .result) (r .read .ensures) _ (told .1) (a .buf .now),
     )
 
 plan-ring-requires : tie.Need-plan-ring-requires
@@ -46,8 +48,8 @@ returns-2 c =
     let a = r .before .before .before .args in
     let told = k .check .given in
     let e = p .plan-ring .ensures in (
-      e .0 ∙ read-answer (a .s .now) (r .read .result) (r .read .ensures) (told .0 .0) (told .0 .1 .0) (told .1) (length (a .buf .now)),
-      e .1 ∙ read-memory (a .s .now) (r .read .result) (r .read .ensures) (told .0 .0) (told .0 .1 .0) (told .1) (a .buf .now) (p .plan-ring .result) (e .0),
+      e .0 ∙ answer-known (a .s .now) (r .read .result) (r .read .ensures) _ (told .1) (length (a .buf .now)),
+      e .1 ∙ ap (λ (q : Planned). memoryFor (ringFor (r .read .result) (told .0 .0) (told .0 .1 .0)) q (a .buf .now)) (e .0) ∙ memory-known (a .s .now) (r .read .result) (r .read .ensures) _ (told .1) (a .buf .now),
     )
 
 pub plan-spec : {M : Type 1} → statement M

@@ -1,6 +1,6 @@
 -- `weigh`: a refused job stops here, a ring's plan is weighed by `weigh_ring`. Assumes nothing.
 use mathlib.Core.Path.{_∙_}
-use Rattle.planner.proofs.Reading.{unread-answer, lent, read-answer}
+use Rattle.planner.proofs.Reading.{answer-known, stopped-answer, lent}
 use borrow.Author.Needs.{needs}
 use Rattle.planner.proofs.weigh.Statement.{statement}
 use Rattle.planner.proofs.weigh.Tie as tie
@@ -23,7 +23,7 @@ returns c =
     let r = t .before .before in
     let a = r .before .before .args in
     let told = t .enum-told .given in
-    c .stopped .ensures ∙ unread-answer (a .s .now) (r .read .result) (r .read .ensures) (told .0 .0) (told .0 .1 .0) (told .1) (a .room)
+    c .stopped .ensures ∙ stopped-answer (a .s .now) (r .read .result) (r .read .ensures) (told .0 .0) (told .0 .1 .0) (told .1) (a .room)
 
 weigh-ring-requires : tie.Need-weigh-ring-requires
 weigh-ring-requires c κs =
@@ -38,7 +38,7 @@ returns-2 c =
     let r = k .before .before in
     let a = r .before .before .args in
     let told = k .check .given in
-    c .weigh-ring .ensures ∙ read-answer (a .s .now) (r .read .result) (r .read .ensures) (told .0 .0) (told .0 .1 .0) (told .1) (a .room)
+    c .weigh-ring .ensures ∙ answer-known (a .s .now) (r .read .result) (r .read .ensures) _ (told .1) (a .room)
 
 pub weigh-spec : {M : Type 1} → statement M
 weigh-spec =

@@ -1,6 +1,6 @@
 -- `crossings::traffic_of`: a refused job has no traffic, a ring's is that of `traffic_ring`. Assumes nothing.
 use mathlib.Core.Path.{_∙_}
-use Rattle.planner.proofs.Reading.{unread-traffic, lent, read-traffic}
+use Rattle.planner.proofs.Reading.{traffic-known, lent}
 use borrow.Author.Needs.{needs}
 use Rattle.planner.proofs.crossings.traffic_of.Statement.{statement}
 use Rattle.planner.proofs.crossings.traffic_of.Tie as tie
@@ -18,7 +18,7 @@ returns : tie.Need-returns
 returns c =
     let r = c .before .before in
     let told = c .enum-told .given in
-    unread-traffic (r .before .before .args .s .now) (r .read .result) (r .read .ensures) (told .0 .0) (told .0 .1 .0) (told .1)
+    traffic-known (r .before .before .args .s .now) (r .read .result) (r .read .ensures) _ (told .1)
 
 cast-traffic-ring : tie.Need-cast-traffic-ring
 cast-traffic-ring c = search needs
@@ -35,7 +35,7 @@ returns-2 c =
     let k = c .before .before .before .before .before .before .before .before .before in
     let r = k .before .before in
     let told = k .check .given in
-    c .traffic-ring .ensures ∙ read-traffic (r .before .before .args .s .now) (r .read .result) (r .read .ensures) (told .0 .0) (told .0 .1 .0) (told .1)
+    c .traffic-ring .ensures ∙ traffic-known (r .before .before .args .s .now) (r .read .result) (r .read .ensures) _ (told .1)
 
 pub traffic-of-spec : {M : Type 1} → statement M
 traffic-of-spec =
