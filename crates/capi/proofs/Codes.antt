@@ -13,8 +13,9 @@ use Rattle.hop.specs.Write.{writtenOf}
 use Rattle.hop.proofs.Given.{reader-gives, writer-gives}
 use Rattle.planner.specs.Answer.{ofPlanned, PlannerGives, planAnswer}
 use Rattle.planner.proofs.Given.{planner-gives}
-use Rattle.loads.specs.Query.{QueryGives, queryAnswer}
-use Rattle.loads.proofs.Given.{query-gives}
+use Rattle.lists.specs.Listed.{ListGives, listAnswer}
+use Rattle.lists.proofs.Given.{list-gives}
+use Rattle.loads.specs.Query.{boardsOf, queryAnswer}
 use Rattle.capi.specs.Convention.{codeOf}
 
 -- a code that says what it should: success is 0; a refusal is not, and its number and board are got back from its code
@@ -38,5 +39,11 @@ write-clear kind loads surpluses costs room =
 pub plan-clear : (s : List ℕ) (room : ℕ) → Clear (ofPlanned (planAnswer (jobOf s) room))
 plan-clear s room = clear PlannerGives (getD s 6 0) (λ number h. omega arith) (ofPlanned (planAnswer (jobOf s) room)) (planner-gives s room)
 
+-- of a call that fills a list and has a refusal number of its own
+list-clear : (own : ℕ) → Within 1 255 own → (Within 7 10 own → ⊥) → (s : List ℕ) (needed room places : ℕ) → Clear (ofPlanned (listAnswer own needed (jobOf s) room places))
+list-clear own one other s needed room places =
+    clear (ListGives own) (getD s 6 0) (λ number h. elim h [ inl w ↦ omega arith | inr e ↦ omega arith ]) (ofPlanned (listAnswer own needed (jobOf s) room places))
+    (list-gives own other s needed room places)
+
 pub query-clear : (s : List ℕ) (room places : ℕ) → Clear (ofPlanned (queryAnswer (jobOf s) room places))
-query-clear s room places = clear QueryGives (getD s 6 0) (λ number h. omega arith) (ofPlanned (queryAnswer (jobOf s) room places)) (query-gives s room places)
+query-clear s = list-clear 14 (omega arith) (λ h. omega arith) s (boardsOf (jobOf s .answer))

@@ -1,12 +1,12 @@
 -- What is known once a job's plan stands in the buffer: each record's link is the ring's, the counts of its records are those of the
 -- plan's sends, no board has sent more than it had and received, and the differences are the loads. Assumes nothing.
-use mathlib.Core.Path.{_≡_}
+use mathlib.Core.Path.{_≡_, sym, ap, _∙_}
 use mathlib.Core.List.{List, _++_}
 use Prim.Native.Nat.{ℕ, _≤_, _<_}
 use native.Mathlib.Omega.{arith}
 use lib.Dec.{eqb, leb}
 use lib.IntN.{ℤ}
-use lib.ListN.{length, getD, replicate, length-append}
+use lib.ListN.{length, getD, drop, replicate, length-append}
 use Rattle.ring.specs.Numbers.{both}
 use Rattle.ring.specs.Lists.{Each, fill}
 use Rattle.ring.specs.Boards.{ringIn, Accepted}
@@ -23,16 +23,18 @@ use Rattle.hop.specs.declared.Job.{Job}
 use Rattle.hop.specs.Read.{jobOf}
 use Rattle.ring.proofs.Fill.{fill-same}
 use Rattle.hop.proofs.Accepted.{job-accepted, arrays}
+use Rattle.planner.specs.declared.Planned.{Planned}
 use Rattle.planner.specs.declared.Planned.the-variants.{Plan}
-use Rattle.planner.specs.PlanBytes.{planBytes, recordPlace, recordsIn}
-use Rattle.planner.specs.Answer.{planAnswer, planMemory}
+use Rattle.planner.specs.PlanBytes.{planBytes, planLength, recordPlace, recordsIn}
+use Rattle.planner.specs.Answer.{memoryFor, ringFor, answerBy, memoryBy, planAnswer, planMemory}
+use Rattle.planner.proofs.Answers.{through}
+use Rattle.planner.proofs.Reading.{planned-of}
 use Rattle.planner.proofs.Bytes.{head-long, records-long}
 use Rattle.planner.proofs.ReadBack.{Fitting, fitting, plan-read, link-read}
 use Rattle.loads.specs.declared.Counts.{Counts}
 use Rattle.loads.specs.Counts.{linksIn, countsOf, leftWith, Covered}
-use Rattle.loads.specs.Query.{loadsBy}
+use Rattle.loads.specs.Query.{boardsOf, loadsBy}
 use Rattle.loads.proofs.Counted.{count-most}
-use Rattle.loads.proofs.Asked.{written}
 
 -- m records in a buffer, for n boards of these loads and costs: with what was counted of them, `whole` holds the loads
 pub record Told (n : ℕ) (loads costs buf : List ℕ) (m : ℕ) (whole : List ℕ → List ℕ) (c : Counts) : Type 0 where
@@ -74,13 +76,32 @@ module _ (kind n : ℕ) (loads : List ℕ) (surpluses : List ℤ) (costs : List 
         told = λ ys. fill-same _ (λ i. loadAt r σ i tick) n ys (record { at = λ i h. omega (arith, got i h, gave i h) });
       })
 
+-- a plan of a ring that was read: its moves, and its bytes in the buffer
+record Written (job : Job) (k n m : ℕ) (xs : List ℕ) : Type 0 where
+  pub moves-is : moves (ringFor job k n) (offset (ringFor job k n)) ≡ m
+  pub bytes : planMemory job xs ≡ planBytes (ringFor job k n) ++ drop (planLength (ringFor job k n)) xs
+
+written : (job : Job) (xs : List ℕ) {k n f m t : ℕ} → job .answer ≡ Ring k n → planAnswer job (length xs) ≡ Plan f m t → Written job k n m xs
+unfolding planAnswer planMemory
+written job xs {k} {n} {f} {m} {t} is e =
+    let r = ringFor job k n in
+    let a = ap (answerBy job (length xs)) is in
+    record {
+      moves-is = sym (through r (length xs) _ f m t a e .moved);
+      bytes = ap (memoryBy job xs) is ∙ ap (λ (p : Planned). memoryFor r p xs) (sym a ∙ e);
+    }
+
 -- of a job that is read and planned
-pub told : (s xs : List ℕ) (tick : ℕ) {k n f m t : ℕ} → jobOf s .answer ≡ Ring k n → planAnswer (jobOf s) (length xs) ≡ Plan f m t
-    → {j : Job} → j ≡ jobOf s → {buf : List ℕ} → buf ≡ planMemory (jobOf s) xs
-    → Told n (j .loads) (j .costs) buf m (loadsBy (jobOf s) (jobOf s .answer) tick) (countsOf (linksIn n (j .costs)) (recordsIn buf m) tick)
-told s xs tick {k} {n} is e p q =
-    let ok = job-accepted s k n is in
-    let long = arrays s k n is in
-    let w = written (jobOf s) xs is e in
-    rw (p, q, w .bytes, ← (w .moves-is), is)
-    (told-ring k n (jobOf s .loads) (jobOf s .surpluses) (jobOf s .costs) ok _ tick (long .2))
+module _ (s xs : List ℕ) (tick : ℕ) {f m t : ℕ} (e : planAnswer (jobOf s) (length xs) ≡ Plan f m t) {j : Job} (p : j ≡ jobOf s) {buf : List ℕ} (q : buf ≡ planMemory (jobOf s) xs) {n : ℕ} (b : n ≡ boardsOf (jobOf s .answer)) where
+  abbrev Known : Type 0
+  Known =
+      Told n (j .loads) (j .costs) buf m (loadsBy (jobOf s) (jobOf s .answer) tick) (countsOf (linksIn n (j .costs)) (recordsIn buf m) tick)
+
+  told-read : (k l : ℕ) → jobOf s .answer ≡ Ring k l → Known
+  told-read k l is =
+      let w = written (jobOf s) xs is e in
+      rw (b, p, q, w .bytes, ← (w .moves-is), is)
+      (told-ring k l (jobOf s .loads) (jobOf s .surpluses) (jobOf s .costs) (job-accepted s k l is) _ tick (arrays s k l is .2))
+
+  pub told : Known
+  told = let of = planned-of (jobOf s) (length xs) e in told-read (of .kind) (of .n) (of .read)

@@ -10,7 +10,7 @@ ghost use Rattle.ring.specs.Bytes.{wordAt};
 ghost use Rattle.hop.specs.Read.{jobOf};
 ghost use Rattle.planner.specs.PlanBytes.{recordPlace, recordsIn};
 ghost use Rattle.loads.specs.Counts.{linksIn, countsOf, leftWith, Covered};
-ghost use Rattle.loads.specs.Query.{lacking, queryAnswer, queryPlan, queryLoads};
+ghost use Rattle.loads.specs.Query.{boardsOf, queryAnswer, queryPlan, queryLoads};
 use hop::Check;
 use hop::MOST_BOARDS;
 use planner::Planned;
@@ -100,16 +100,13 @@ fn tell(n: usize, loads: &[u16], counts: Counts, list: &mut [u32])
     }
 }
 
-// 14 in place of a plan's numbers.
-fn lacking(planned: Planned) -> Planned
-    ensures { λ r. ⌜ r ≡ lacking planned ⌝ }
+// The boards of a ring that was read; none of a refused job.
+fn boards_of(check: Check) -> usize
+    ensures { λ r. ⌜ r ≡ boardsOf check ⌝ }
 {
-    match planned {
-        Planned::Plan { .. } => Planned::Refused {
-            number: 14,
-            board: 0,
-        },
-        Planned::Refused { number, board } => Planned::Refused { number, board },
+    match check {
+        Check::Ring { n, .. } => n as usize,
+        Check::Refused { .. } => 0,
     }
 }
 
@@ -121,14 +118,8 @@ pub fn loads(s: &[u8], tick: u32, buf: &mut [u8], list: &mut [u32]) -> Planned
 {
     let job = hop::read(s);
     let answer = job.answer;
-    let Check::Ring { n, .. } = answer else {
-        return planner::plan(s, buf);
-    };
-    let boards = n as usize;
-    if list.len() < boards {
-        return lacking(planner::weigh(s, buf.len()));
-    }
-    let planned = planner::plan(s, buf);
+    let boards = boards_of(answer);
+    let planned = lists::plan_for(s, buf, boards, list.len(), 14);
     let Planned::Plan { moves, .. } = planned else {
         return planned;
     };
