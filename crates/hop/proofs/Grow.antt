@@ -1,12 +1,12 @@
 -- A buffer that is written piece by piece from its front: what a callee that was lent the part from `at` on says of the part, said
 -- of the whole. Assumes nothing.
-use mathlib.Core.Path.{_≡_, sym, ap, _∙_}
-use mathlib.Core.List.{List, [], _++_, append-assoc, append-nil}
+use mathlib.Core.Path.{_≡_, sym, ap, subst, _∙_}
+use mathlib.Core.List.{List, [], _∷_, _++_, append-assoc, append-nil}
 use Prim.Native.Nat.{ℕ, suc, _+_, _-_, _≤_, _<_}
 use native.Mathlib.Omega.{arith}
 use native.Mathlib.Numerals.{add-one}
 use lib.ListN.{length, take, drop, getD, set, length-append, length-drop, length-set, drop-of-length-le}
-use lib.Seq.{take-all, take-at, drop-at, drop-drop, drop-cons, set-at, append-snoc, take-suc, length-take-le}
+use lib.Seq.{take-all, take-at, drop-at, drop-drop, drop-cons, set-at, append-snoc, take-suc}
 use borrow.Rule.Slice.PartMut.{putMid, midOf}
 use Rattle.ring.specs.Lists.{joined}
 
@@ -28,17 +28,21 @@ module _ {xs p : List ℕ} {at : ℕ} {now : List ℕ} (b : Begins xs p at now) 
       let l : length (p ++ q) ≡ at + k = length-append p q ∙ (λ i. b .long i + long i) in
       record { is = e; long = l; same = rw e (simp (length-append, length-drop, b .long, long) (omega arith)) }
 
+-- one value more is put in its place
+pub one-put : {xs p now : List ℕ} {i : ℕ} (v : ℕ) → Begins xs p i now → i < length xs → Begins xs (p ++ v ∷ []) (i + 1) (set now i v)
+one-put {xs} {p} {now} {i} v b there =
+    let e : set now i v ≡ (p ++ v ∷ []) ++ drop (suc i) xs =
+    ap (λ (l : List ℕ). set l i v) (b .is ∙ ap (λ (l : List ℕ). p ++ l) (drop-cons xs i 0 there))
+    ∙ set-at p (getD xs i 0) (drop (suc i) xs) v i (b .long)
+    ∙ sym (append-snoc p v (drop (suc i) xs)) in
+    rw (add-one i) (record { is = e; long = simp length-append (omega (arith, b .long)); same = length-set now i v ∙ b .same })
+
 -- one byte more of a list is copied to its place
 pub copied : {xs now : List ℕ} (bytes : List ℕ) (i : ℕ) → Begins xs (take i bytes) i now → i < length bytes → i < length xs
     → Begins xs (take (i + 1) bytes) (i + 1) (set now i (getD bytes i 0))
 copied {xs} {now} bytes i b here there =
     let v = getD bytes i 0 in
-    let e : set now i v ≡ take (suc i) bytes ++ drop (suc i) xs =
-    ap (λ (l : List ℕ). set l i v) (b .is ∙ ap (λ (l : List ℕ). take i bytes ++ l) (drop-cons xs i 0 there))
-    ∙ set-at (take i bytes) (getD xs i 0) (drop (suc i) xs) v i (b .long)
-    ∙ sym (append-snoc (take i bytes) v (drop (suc i) xs))
-    ∙ ap (λ (l : List ℕ). l ++ drop (suc i) xs) (sym (take-suc bytes i 0 here)) in
-    rw (add-one i) (record { is = e; long = length-take-le (suc i) bytes here; same = length-set now i v ∙ b .same })
+    subst (λ (p : List ℕ). Begins xs p (i + 1) (set now i v)) (sym (take-suc bytes i 0 here) ∙ ap (λ (k : ℕ). take k bytes) (sym (add-one i))) (one-put v b there)
 
 -- piece i was written there, after those before it
 pub more : {xs : List ℕ} {at : ℕ} {now : List ℕ} (p : List ℕ) (g : ℕ → List ℕ) (i k : ℕ) (ys : List ℕ) → Begins xs (p ++ joined g i) at now → length (g i) ≡ k → at + k ≤ length xs → ys ≡ g i ++ drop k (midOf at (length now - at) now)
