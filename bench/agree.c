@@ -1,17 +1,19 @@
 /* Holds the library to plain C on many jobs, whole and damaged: the writer's bytes, the check, the plan in rooms that fit, do not fit or have
-   bytes to spare, and the loads at a tick counted from the plan's records. Prints what was compared and how much of it differed. */
+   bytes to spare, the loads at a tick counted from the plan's records, and the columns in lists that fit, do not fit or have places to spare.
+   Prints what was compared and how much of it differed. */
 #include "../include/fallowroe.h"
 #include "plain.h"
 
 #include <stdio.h>
 #include <string.h>
 
-enum { JOBS = 100000, ROOM = 20000, MOST_BOARDS = 128 };
+enum { JOBS = 100000, ROOM = 20000, MOST_BOARDS = 128, COLUMNS = FALLOWROE_MOST_COLUMNS };
 
 static uint16_t loads[MOST_BOARDS], costs[MOST_BOARDS];
 static int16_t surpluses[MOST_BOARDS];
 static uint8_t job[FALLOWROE_LONGEST_JOB + 8], written[FALLOWROE_LONGEST_JOB + 8], ours[ROOM], theirs[ROOM];
-static unsigned refusals[16], sends, rings, differences;
+static uint32_t our_list[COLUMNS], their_list[COLUMNS];
+static unsigned refusals[17], sends, rings, columns, differences;
 
 static uint32_t seed = 1;
 
@@ -89,6 +91,34 @@ static void hold_loads(int n, uint64_t moves, size_t length, uint32_t tick)
     hold(fallowroe_loads(job, length, tick, plan, sizeof plan, list, n - 1, values) == 14);
 }
 
+/* One job in one room and one list of so many places: answers, and every byte and every place up to one more than are lent. */
+static uint64_t hold_columns(size_t length, size_t room, size_t places)
+{
+    uint64_t mine[3] = {7, 7, 7}, plain[3] = {7, 7, 7}, code;
+    size_t all = (places < COLUMNS ? places + 1 : places) * sizeof our_list[0];
+    memset(ours, 170, sizeof ours);
+    memset(theirs, 170, sizeof theirs);
+    memset(our_list, 170, all);
+    memset(their_list, 170, all);
+    code = fallowroe_columns(job, length, ours, room, our_list, places, mine);
+    hold(code == plain_columns(job, length, theirs, room, their_list, places, plain));
+    hold(memcmp(mine, plain, sizeof plain) == 0 && memcmp(ours, theirs, sizeof ours) == 0 && memcmp(our_list, their_list, all) == 0);
+    if (fallowroe_number(code) == 16) refusals[16]++;
+    return code;
+}
+
+/* The columns of an accepted job whose plan has so many sends: a list that fits, one with a place to spare, one that is a place short. */
+static void hold_lists(size_t length, uint64_t moves)
+{
+    size_t total = 0, room = 15 + 6 * moves;
+    for (int i = 0; i < job[6]; i++) total += job[7 + 6 * i] * 256 + job[8 + 6 * i];
+    columns += total;
+    hold(hold_columns(length, room, total) == 0);
+    hold(hold_columns(length, room, total - 1) == 16);
+    hold(hold_columns(length, room - 1, total - 1) == 13);
+    if (total < COLUMNS) hold(hold_columns(length, ROOM, total + 1) == 0);
+}
+
 /* One job in one room: answers and every byte of the buffers. */
 static uint64_t hold_plan(size_t length, size_t room, uint64_t mine[3])
 {
@@ -108,12 +138,17 @@ static void hold_job(size_t length)
     uint64_t values[3], more[3], checked[3], code = hold_plan(length, ROOM - draw(2) * draw(ROOM), values);
     uint64_t check = fallowroe_check(job, length, checked);
     hold(check == (fallowroe_number(code) < 12 ? code : 0));
-    if (code != 0) return;
+    if (code != 0) {
+        uint64_t again = hold_columns(length, ROOM, draw(4));
+        hold(check == 0 || again == check);
+        return;
+    }
     hold(checked[0] == job[5] && checked[1] == job[6]);
     rings++, sends += values[1];
     hold_loads(job[6], values[1], length, draw(2) ? draw(values[0] + 2) : draw(4294967295u));
     hold(hold_plan(length, 15 + 6 * values[1], more) == 0);
     hold(hold_plan(length, 14 + 6 * values[1], more) == 13);
+    hold_lists(length, values[1]);
 }
 
 int main(void)
@@ -123,8 +158,9 @@ int main(void)
         draw_ring(kind, n);
         hold_job(k % 2 ? put_job(kind, n) : damaged(put_job(kind, n)));
     }
-    printf("rings %u, sends %u\n", rings, sends);
+    printf("rings %u, sends %u, columns %u\n", rings, sends, columns);
     for (int number = 1; number < 14; number++) printf("refused %d: %u\n", number, refusals[number]);
+    printf("refused 16: %u\n", refusals[16]);
     printf("differences %u\n", differences);
     return differences != 0;
 }

@@ -4,11 +4,14 @@
 
 enum { MOST_BOARDS = 128, MOST_ITEMS = 64 * 4094 };
 
-/* A ring that was read. s is S, the sum of the surpluses up to each board; f is what each link carries, and at the place of its first record. */
+/* A ring that was read, and the numbers of its plan. s is S, the sum of the surpluses up to each board; f is what each link carries, and at the
+   place of its first record. */
 struct ring {
     int kind, n;
     int load[MOST_BOARDS], surplus[MOST_BOARDS], cost[MOST_BOARDS], s[MOST_BOARDS], f[MOST_BOARDS];
     size_t at[MOST_BOARDS];
+    uint64_t finish, moves;
+    int rounds, tight;
 };
 
 static uint64_t refused(unsigned number, unsigned board) { return number + 256 * (uint64_t)board; }
@@ -93,38 +96,85 @@ static void two_way(const struct ring *r, uint32_t rounds, uint8_t *plan)
     }
 }
 
+/* What each link carries, and the plan's numbers, where it has room. */
+static uint64_t outline(const uint8_t *job, size_t job_length, size_t plan_room, struct ring *r)
+{
+    int i, low = 0, high = 0, offset;
+    uint64_t fault = read_head(job, job_length, r);
+    if (fault == 0) fault = read_boards(job, r);
+    if (fault != 0) return fault;
+    /* S of the last board is 0 */
+    for (i = 0; i < r->n; i++) {
+        if (r->s[i] < low) low = r->s[i];
+        if (r->s[i] > high) high = r->s[i];
+    }
+    offset = r->kind == 3 ? low + (high - low) / 2 : low;
+    r->rounds = (high - low + 1) / 2;
+    r->moves = r->finish = 0;
+    r->tight = 0;
+    for (i = 0; i < r->n; i++) {
+        uint64_t time;
+        r->f[i] = r->s[i] - offset;
+        r->at[i] = 15 + 6 * r->moves;
+        r->moves += size(r->f[i]);
+        time = (uint64_t)size(r->f[i]) * r->cost[i];
+        if (time > r->finish) r->finish = time;
+        if (size(r->f[i]) > size(r->f[r->tight])) r->tight = i;
+        if (size(r->surplus[i]) > r->rounds) r->rounds = size(r->surplus[i]);
+    }
+    if (r->kind == 3) r->finish = (uint64_t)r->rounds * r->cost[0];
+    if (r->finish > 4294967295u) return refused(12, 0);
+    return 15 + 6 * r->moves > plan_room ? refused(13, 0) : 0;
+}
+
+static void put_plan(const struct ring *r, uint8_t *plan, uint64_t values[3])
+{
+    plan[0] = 'P', plan[1] = 'L', plan[2] = 'N', plan[3] = 0, plan[4] = 1, plan[5] = r->kind, plan[6] = r->n;
+    put_word(plan + 7, r->finish);
+    put_word(plan + 11, r->moves);
+    if (r->kind == 3) two_way(r, r->rounds, plan);
+    else one_way(r, plan);
+    values[0] = r->finish, values[1] = r->moves, values[2] = r->tight;
+}
+
 uint64_t plain_plan(const uint8_t *job, size_t job_length, uint8_t *plan, size_t plan_room, uint64_t values[3])
 {
     struct ring r;
-    int i, low = 0, high = 0, offset, rounds, tight = 0;
-    uint64_t moves = 0, finish = 0, fault = read_head(job, job_length, &r);
-    if (fault == 0) fault = read_boards(job, &r);
+    uint64_t fault = outline(job, job_length, plan_room, &r);
+    if (fault == 0) put_plan(&r, plan, values);
+    return fault;
+}
+
+/* So many columns from the first on; the place after them. */
+static uint32_t *put_run(uint32_t *list, int first, int count)
+{
+    for (int k = 0; k < count; k++) list[k] = first + k;
+    return list + count;
+}
+
+/* Board by board its stretch: from the loads of the boards before it, less f of the link before it; past the last column from 0 on. */
+static void put_columns(const struct ring *r, int total, uint32_t *list)
+{
+    int i, before = 0;
+    for (i = 0; i < r->n; i++) {
+        int begin = (before - r->f[(i + r->n - 1) % r->n]) % total, first = begin < 0 ? begin + total : begin;
+        int count = r->load[i] - r->surplus[i], up = count < total - first ? count : total - first;
+        list = put_run(list, first, up);
+        list = put_run(list, 0, count - up);
+        before += r->load[i];
+    }
+}
+
+uint64_t plain_columns(const uint8_t *job, size_t job_length, uint8_t *plan, size_t plan_room, uint32_t *list, size_t list_places,
+                       uint64_t values[3])
+{
+    struct ring r;
+    int i, total = 0;
+    uint64_t fault = outline(job, job_length, plan_room, &r);
     if (fault != 0) return fault;
-    /* S of the last board is 0 */
-    for (i = 0; i < r.n; i++) {
-        if (r.s[i] < low) low = r.s[i];
-        if (r.s[i] > high) high = r.s[i];
-    }
-    offset = r.kind == 3 ? low + (high - low) / 2 : low;
-    rounds = (high - low + 1) / 2;
-    for (i = 0; i < r.n; i++) {
-        uint64_t time;
-        r.f[i] = r.s[i] - offset;
-        r.at[i] = 15 + 6 * moves;
-        moves += size(r.f[i]);
-        time = (uint64_t)size(r.f[i]) * r.cost[i];
-        if (time > finish) finish = time;
-        if (size(r.f[i]) > size(r.f[tight])) tight = i;
-        if (size(r.surplus[i]) > rounds) rounds = size(r.surplus[i]);
-    }
-    if (r.kind == 3) finish = (uint64_t)rounds * r.cost[0];
-    if (finish > 4294967295u) return refused(12, 0);
-    if (15 + 6 * moves > plan_room) return refused(13, 0);
-    plan[0] = 'P', plan[1] = 'L', plan[2] = 'N', plan[3] = 0, plan[4] = 1, plan[5] = r.kind, plan[6] = r.n;
-    put_word(plan + 7, finish);
-    put_word(plan + 11, moves);
-    if (r.kind == 3) two_way(&r, rounds, plan);
-    else one_way(&r, plan);
-    values[0] = finish, values[1] = moves, values[2] = tight;
+    for (i = 0; i < r.n; i++) total += r.load[i];
+    if (list_places < (size_t)total) return refused(16, 0);
+    put_plan(&r, plan, values);
+    put_columns(&r, total, list);
     return 0;
 }

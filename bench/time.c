@@ -1,5 +1,5 @@
-/* Times the library's planner against the plain one on the same jobs, in the same run. Both plans are first made in buffers filled alike
-   and held to be the same bytes; the buffers are not cleared between the calls that are timed. */
+/* Times the library's planner and its columns call against the plain ones on the same jobs, in the same run. Both plans are first made in
+   buffers filled alike and held to be the same bytes, and both lists the same numbers; they are not cleared between the calls that are timed. */
 #include "../include/fallowroe.h"
 #include "plain.h"
 
@@ -7,11 +7,23 @@
 #include <string.h>
 #include <time.h>
 
-enum { PLACES = 16, APART = 272, SAMPLES = 8, ROOM = 15 + 6 * 1000000 };
+enum { PLACES = 16, APART = 272, SAMPLES = 8, ROOM = 15 + 6 * 1000000, COLUMNS = 128 * 4095 };
 
 typedef uint64_t planner(const uint8_t *, size_t, uint8_t *, size_t, uint64_t *);
 
 static uint8_t job[FALLOWROE_LONGEST_JOB], ours[ROOM], theirs[ROOM];
+static uint32_t our_list[COLUMNS], their_list[COLUMNS];
+
+/* The columns calls as planners: each has a list of its own. */
+static uint64_t our_columns(const uint8_t *bytes, size_t length, uint8_t *plan, size_t room, uint64_t *values)
+{
+    return fallowroe_columns(bytes, length, plan, room, our_list, COLUMNS, values);
+}
+
+static uint64_t their_columns(const uint8_t *bytes, size_t length, uint8_t *plan, size_t room, uint64_t *values)
+{
+    return plain_columns(bytes, length, plan, room, their_list, COLUMNS, values);
+}
 
 static void put_head(int kind, int n)
 {
@@ -59,6 +71,19 @@ static size_t half_to_half(int kind, int items, enum costs costs)
     return 7 + 6 * 128;
 }
 
+/* N is 524,160 less the items: each board has 4,095 columns, but board 0, which gets so many from the two beside it, half from each; in kind 1 all
+   from the one before it. Each item is one send. */
+static size_t all_columns(int kind, int items)
+{
+    int half = kind == 3 ? items / 2 : 0;
+    put_head(kind, 128);
+    for (int i = 0; i < 128; i++) put_board(i, 4095, 0, 7);
+    put_board(127, 4095, items - half, 7);
+    put_board(1, 4095, half, 7);
+    put_board(0, 4095 - items, -items, 7);
+    return 7 + 6 * 128;
+}
+
 /* The processor time of one call of so many in a row, in nanoseconds, with the stack lower by so many bytes. */
 static double timed(planner *plan, size_t length, uint8_t *buffer, size_t room, int calls, int lower)
 {
@@ -72,46 +97,68 @@ static double timed(planner *plan, size_t length, uint8_t *buffer, size_t room, 
     return ((ended.tv_sec - began.tv_sec) * 1e9 + (ended.tv_nsec - began.tv_nsec)) / calls;
 }
 
-/* 1 where the two differ; else the times of both are printed: the least of several, in the mean over several places of the stack, since where
-   a short call's arrays lie in the cache lines changes its time by a fifth. */
-static int compare(const char *name, size_t length, int calls)
+/* What both answer and leave: 1 where they differ. */
+static int differ(planner *library, planner *c, size_t length, uint64_t values[3])
 {
-    uint64_t mine[3], plain[3];
-    double library = 0, c = 0;
+    uint64_t plain[3];
     memset(ours, 170, sizeof ours);
     memset(theirs, 170, sizeof theirs);
-    uint64_t code = fallowroe_plan(job, length, ours, sizeof ours, mine);
-    if (code != plain_plan(job, length, theirs, sizeof theirs, plain) || code != 0 || memcmp(mine, plain, sizeof mine) != 0 ||
-        memcmp(ours, theirs, sizeof ours) != 0) {
+    memset(our_list, 170, sizeof our_list);
+    memset(their_list, 170, sizeof their_list);
+    uint64_t code = library(job, length, ours, sizeof ours, values);
+    return code != c(job, length, theirs, sizeof theirs, plain) || code != 0 || memcmp(values, plain, sizeof plain) != 0 ||
+           memcmp(ours, theirs, sizeof ours) != 0 || memcmp(our_list, their_list, sizeof our_list) != 0;
+}
+
+/* 1 where the two differ; else the times of both are printed, whole and for one of so many items (0: of the sends): the least of several, in the
+   mean over several places of the stack, since where a short call's arrays lie in the cache lines changes its time by a fifth. */
+static int compare(const char *name, planner *library, planner *c, size_t length, int calls, double items)
+{
+    uint64_t values[3];
+    double mine = 0, plain = 0;
+    if (differ(library, c, length, values)) {
         printf("%-28s the two DIFFER\n", name);
         return 1;
     }
-    double sends = mine[1];
-    size_t room = 15 + 6 * mine[1];
+    size_t room = 15 + 6 * values[1];
+    if (items == 0) items = values[1];
     for (int p = 0; p < PLACES; p++) {
         double least = 0, least_c = 0;
         for (int s = 0; s < SAMPLES; s++) {
-            double a = timed(fallowroe_plan, length, ours, room, calls, p * APART), b = timed(plain_plan, length, theirs, room, calls, p * APART);
+            double a = timed(library, length, ours, room, calls, p * APART), b = timed(c, length, theirs, room, calls, p * APART);
             if (s == 0 || a < least) least = a;
             if (s == 0 || b < least_c) least_c = b;
         }
-        library += least / PLACES, c += least_c / PLACES;
+        mine += least / PLACES, plain += least_c / PLACES;
     }
-    printf("%-28s %9.0f %12.0f %12.0f %10.2f %8.2f %8.2f\n", name, sends, library, c, library / sends, c / sends, library / c);
+    printf("%-28s %9.0f %12.0f %12.0f %10.2f %8.2f %8.2f\n", name, items, mine, plain, mine / items, plain / items, mine / plain);
     return 0;
+}
+
+static int compare_plans(const char *name, size_t length, int calls) { return compare(name, fallowroe_plan, plain_plan, length, calls, 0); }
+
+/* The plan's time is in both: next to nothing with a hundred sends, most of it with a million. */
+static int compare_columns(const char *name, size_t length, int calls, double columns)
+{
+    return compare(name, our_columns, their_columns, length, calls, columns);
 }
 
 int main(void)
 {
     int wrong = 0;
     printf("%-28s %9s %12s %12s %10s %8s %8s\n", "", "sends", "library, ns", "C, ns", "a send, ns", "in C", "ratio");
-    wrong += compare("case A", case_a(), 2000);
-    wrong += compare("a full buffer", full_buffer(), 30);
-    wrong += compare("one way, costs falling", half_to_half(2, 3, FALLING), 20);
-    wrong += compare("one way, costs mixed", half_to_half(2, 3, MIXED), 20);
-    wrong += compare("two way", half_to_half(3, 6, ALIKE), 20);
-    wrong += compare("one way, costs falling", half_to_half(2, 244, FALLING), 1);
-    wrong += compare("one way, costs mixed", half_to_half(2, 244, MIXED), 1);
-    wrong += compare("two way", half_to_half(3, 488, ALIKE), 1);
+    wrong += compare_plans("case A", case_a(), 2000);
+    wrong += compare_plans("a full buffer", full_buffer(), 30);
+    wrong += compare_plans("one way, costs falling", half_to_half(2, 3, FALLING), 20);
+    wrong += compare_plans("one way, costs mixed", half_to_half(2, 3, MIXED), 20);
+    wrong += compare_plans("two way", half_to_half(3, 6, ALIKE), 20);
+    wrong += compare_plans("one way, costs falling", half_to_half(2, 244, FALLING), 1);
+    wrong += compare_plans("one way, costs mixed", half_to_half(2, 244, MIXED), 1);
+    wrong += compare_plans("two way", half_to_half(3, 488, ALIKE), 1);
+    printf("%-28s %9s %12s %12s %10s %8s %8s\n", "", "columns", "library, ns", "C, ns", "one, ns", "in C", "ratio");
+    wrong += compare_columns("case A", case_a(), 2000, 9);
+    wrong += compare_columns("100 sends", all_columns(1, 100), 2, COLUMNS - 100);
+    wrong += compare_columns("4,094 sends, two way", all_columns(3, 4094), 2, COLUMNS - 4094);
+    wrong += compare_columns("999,424 sends", half_to_half(2, 244, MIXED), 1, 64 * 4096);
     return wrong;
 }

@@ -1,4 +1,4 @@
-/* Case A from C: its job is written, checked and planned, and the loads at tick 3 are asked. */
+/* Case A from C: its job is written, checked and planned, and the loads at tick 3 and the columns after the plan are asked. */
 #include "fallowroe.h"
 
 #include <stdio.h>
@@ -9,7 +9,7 @@ static const uint16_t costs[4] = {2, 3, 1, 4};
 
 static uint8_t job[FALLOWROE_LONGEST_JOB];
 static uint8_t plan[1024];
-static uint32_t list[4];
+static uint32_t list[4], columns[FALLOWROE_MOST_COLUMNS];
 static uint64_t values[3];
 
 /* Whether the code is a refusal, which is printed. */
@@ -25,6 +25,26 @@ static void print_record(const uint8_t *r)
 {
     unsigned start = (unsigned)r[2] << 24 | (unsigned)r[3] << 16 | (unsigned)r[4] << 8 | r[5];
     printf("link %u %s start %u\n", r[0], r[1] == 0 ? "forward" : "back", start);
+}
+
+/* The largest ring: 128 boards with the greatest load, at rest. Its job is the longest, and it has the most columns. */
+static size_t write_largest(void)
+{
+    static uint16_t most[128], alike[128];
+    static int16_t none[128];
+    for (int i = 0; i < 128; i++) most[i] = 4095, alike[i] = 1;
+    return fallowroe_write(1, most, 128, none, 128, alike, 128, job, sizeof job, values) == 0 ? values[0] : 0;
+}
+
+/* Each board's columns: as many as its load after, board 0's first. */
+static void print_columns(void)
+{
+    size_t at = 0;
+    for (int i = 0; i < 4; i++) {
+        printf("board %d has columns", i);
+        for (size_t end = at + loads[i] - surpluses[i]; at < end; at++) printf(" %u", columns[at]);
+        printf("\n");
+    }
 }
 
 int main(void)
@@ -48,9 +68,23 @@ int main(void)
         return 1;
     printf("loads at tick 3: %u %u %u %u\n", list[0], list[1], list[2], list[3]);
 
+    /* The columns take a place for each of the 9 items; one place fewer is refused. */
+    refused(fallowroe_columns(job, length, plan, sizeof plan, columns, 8, values));
+    if (refused(fallowroe_columns(job, length, plan, sizeof plan, columns, 9, values)))
+        return 1;
+    print_columns();
+
     /* Board 1 with a load of 0: the code has number and board, and nothing that was lent has changed. */
     job[13] = job[14] = 0;
     refused(fallowroe_loads(job, length, 9, plan, sizeof plan, list, 4, values));
     printf("as before: %u %u %u %u, finish %u\n", list[0], list[1], list[2], list[3], (unsigned)values[0]);
+
+    /* A list for the largest ring, exact and a place short. */
+    length = write_largest();
+    printf("longest job: %s\n", length == FALLOWROE_LONGEST_JOB ? "as long as the header says" : "of ANOTHER length");
+    if (refused(fallowroe_columns(job, length, plan, sizeof plan, columns, FALLOWROE_MOST_COLUMNS, values)))
+        return 1;
+    printf("last column %u\n", columns[FALLOWROE_MOST_COLUMNS - 1]);
+    refused(fallowroe_columns(job, length, plan, sizeof plan, columns, FALLOWROE_MOST_COLUMNS - 1, values));
     return 0;
 }

@@ -1,11 +1,11 @@
-/* Fallowroe for C: jobs, plans and loads of ring machines, on numbers and lent buffers.
+/* Fallowroe for C: jobs, plans, loads and columns of ring machines, on numbers and lent buffers.
  *
- * Four functions of one proved library, target/staticlib/libcapi.a (`rt staticlib capi`, for x86-64 Linux). They need memcpy and
+ * Five functions of one proved library, target/staticlib/libcapi.a (`rt staticlib capi`, for x86-64 Linux). They need memcpy and
  * memset and nothing else, keep nothing between calls, and may be called from any number of threads.
  *
- * The convention, the same for all four and for every input:
+ * The convention, the same for all five and for every input:
  *
- *   - The code that is returned is 0 on success. Else it is a refusal: its number (1 to 14, README.md's table) in the lowest
+ *   - The code that is returned is 0 on success. Else it is a refusal: its number (1 to 14 and 16, README.md's table) in the lowest
  *     byte and its board above it, so number = code % 256 and board = code / 256. No refusal has code 0.
  *   - On success the function's values stand in values[0], values[1] and values[2] (0 where it has fewer than three), and its
  *     result at the front of the buffer or list that was lent for it; every byte and place after the result is as it was.
@@ -32,6 +32,9 @@ extern "C" {
 /* The longest job, in bytes: 7 + 6 * 128. A plan is 15 + 6 * moves bytes long. */
 #define FALLOWROE_LONGEST_JOB 775
 
+/* The most columns that a ring has: 128 boards of 4,095. */
+#define FALLOWROE_MOST_COLUMNS 524160
+
 /* The refusal's number in a code, and 0 in the code of success. */
 static inline unsigned fallowroe_number(uint64_t code) { return (unsigned)(code % 256); }
 
@@ -49,10 +52,17 @@ uint64_t fallowroe_write(uint8_t kind, const uint16_t *loads, size_t loads_lengt
 /* Writes the plan of a job at the front of `plan`. Values: finish, moves, tight link. Refusals 1 to 13. */
 uint64_t fallowroe_plan(const uint8_t *job, size_t job_length, uint8_t *plan, size_t plan_room, uint64_t values[3]);
 
-/* The same, and the load of each of the n boards at a tick in the first n places of `list`.
+/* As fallowroe_plan, and the load of each of the n boards at a tick in the first n places of `list`.
  * Values: finish, moves, tight link. Refusals 1 to 14. */
 uint64_t fallowroe_loads(const uint8_t *job, size_t job_length, uint32_t tick, uint8_t *plan, size_t plan_room, uint32_t *list,
                          size_t list_places, uint64_t values[3]);
+
+/* As fallowroe_plan, and where the columns are when the plan has been played. Columns are numbered from 0, board 0's first; a forward send takes a board's
+ * last column and the next board puts it first, a back send takes the first and the other board puts it last. With N columns in all (the total of
+ * the loads, at most FALLOWROE_MOST_COLUMNS) the first N places of `list` are the boards' columns in their order, board 0's first: board i has as
+ * many of them as its load after. Values: finish, moves, tight link. Refusals 1 to 13; 16 where list_places is below N. */
+uint64_t fallowroe_columns(const uint8_t *job, size_t job_length, uint8_t *plan, size_t plan_room, uint32_t *list, size_t list_places,
+                           uint64_t values[3]);
 
 #ifdef __cplusplus
 }

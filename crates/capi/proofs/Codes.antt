@@ -16,6 +16,7 @@ use Rattle.planner.proofs.Given.{planner-gives}
 use Rattle.lists.specs.Listed.{ListGives, listAnswer}
 use Rattle.lists.proofs.Given.{list-gives}
 use Rattle.loads.specs.Query.{boardsOf, queryAnswer}
+use Rattle.columns.specs.Call.{columnsIn, columnsAnswer}
 use Rattle.capi.specs.Convention.{codeOf}
 
 -- a code that says what it should: success is 0; a refusal is not, and its number and board are got back from its code
@@ -47,3 +48,6 @@ list-clear own one other s needed room places =
 
 pub query-clear : (s : List ℕ) (room places : ℕ) → Clear (ofPlanned (queryAnswer (jobOf s) room places))
 query-clear s = list-clear 14 (omega arith) (λ h. omega arith) s (boardsOf (jobOf s .answer))
+
+pub columns-clear : (s : List ℕ) (room places : ℕ) → Clear (ofPlanned (columnsAnswer (jobOf s) room places))
+columns-clear s = list-clear 16 (omega arith) (λ h. omega arith) s (columnsIn (jobOf s) (jobOf s .answer))

@@ -12,6 +12,8 @@ use Rattle.capi.proofs.fallowroe_plan.Kinds as plan
 use Rattle.capi.proofs.fallowroe_plan.Reads as plan-said
 use Rattle.capi.proofs.fallowroe_loads.Kinds as loads
 use Rattle.capi.proofs.fallowroe_loads.Reads as loads-said
+use Rattle.capi.proofs.fallowroe_columns.Kinds as columns
+use Rattle.capi.proofs.fallowroe_columns.Reads as columns-said
 
 -- of each: lifetimes, the arguments, two answers, and what is lent as the function returns
 pub one-check : (κs : Lfts 2) (a : Dens κs check.ps) (x y : resT check.r κs .Denot) (s t : AtExit (endedOf 2 check.ps check.r) κs)
@@ -31,3 +33,8 @@ pub one-loads : (κs : Lfts 4) (a : Dens κs loads.ps) (x y : resT loads.r κs .
     → loads-said.Post κs a x s → loads-said.Post κs a y t
     → (x ≡ y) × (now (s .1 .1 .0) ≡ now (t .1 .1 .0)) × (now (s .1 .1 .1 .0) ≡ now (t .1 .1 .1 .0)) × (now (s .1 .1 .1 .1 .0) ≡ now (t .1 .1 .1 .1 .0))
 one-loads κs a x y s t p q = (p .0 ∙ sym (q .0), p .1 .0 ∙ sym (q .1 .0), p .1 .1 .0 ∙ sym (q .1 .1 .0), p .1 .1 .1 ∙ sym (q .1 .1 .1))
+
+pub one-columns : (κs : Lfts 4) (a : Dens κs columns.ps) (x y : resT columns.r κs .Denot) (s t : AtExit (endedOf 4 columns.ps columns.r) κs)
+    → columns-said.Post κs a x s → columns-said.Post κs a y t
+    → (x ≡ y) × (now (s .1 .0) ≡ now (t .1 .0)) × (now (s .1 .1 .0) ≡ now (t .1 .1 .0)) × (now (s .1 .1 .1 .0) ≡ now (t .1 .1 .1 .0))
+one-columns κs a x y s t p q = (p .0 ∙ sym (q .0), p .1 .0 ∙ sym (q .1 .0), p .1 .1 .0 ∙ sym (q .1 .1 .0), p .1 .1 .1 ∙ sym (q .1 .1 .1))

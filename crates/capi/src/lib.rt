@@ -1,5 +1,5 @@
-// For callers in other languages: the reader's check, the job writer, the planner and the loads query, on numbers and slices.
-// include/fallowroe.h declares the four functions to C.
+// For callers in other languages: the reader's check, the job writer, the planner, the loads query and the columns call, on numbers and slices.
+// include/fallowroe.h declares the five functions to C.
 ghost use mathlib.Core.Path.{_≡_};
 ghost use lib.ListN.{length};
 ghost use mathlib.Core.List.{[], _∷_};
@@ -8,6 +8,7 @@ ghost use Rattle.hop.specs.Read.{checkOf, jobOf};
 ghost use Rattle.hop.specs.Write.{writtenOf, bufferOf};
 ghost use Rattle.planner.specs.Answer.{ofPlanned, planAnswer, planMemory};
 ghost use Rattle.loads.specs.Query.{queryAnswer, queryPlan, queryLoads};
+ghost use Rattle.columns.specs.Call.{columnsAnswer, columnsPlan, columnsList};
 ghost use Rattle.capi.specs.Convention.{codeOf, valuesOf};
 use hop::Check;
 use hop::Written;
@@ -119,4 +120,20 @@ pub extern "C" fn fallowroe_loads(
     ensures { λ _. ⌜ now (values .exit) ≡ valuesOf (ofPlanned (queryAnswer (jobOf (now (job .entry))) (length (now (plan .entry))) (length (now (list .entry))))) (now (values .entry)) ⌝ }
 {
     tell_planned(loads::loads(job, tick, plan, list), values)
+}
+
+// The plan as above, and the columns that each board then has, board 0's first, in a list's first places.
+#[no_mangle]
+pub extern "C" fn fallowroe_columns(
+    job: &[u8],
+    plan: &mut [u8],
+    list: &mut [u32],
+    values: &mut [u64; 3],
+) -> u64
+    ensures { λ r. ⌜ r ≡ codeOf (ofPlanned (columnsAnswer (jobOf (now (job .entry))) (length (now (plan .entry))) (length (now (list .entry))))) ⌝ }
+    ensures { λ _. ⌜ now (plan .exit) ≡ columnsPlan (jobOf (now (job .entry))) (length (now (list .entry))) (now (plan .entry)) ⌝ }
+    ensures { λ _. ⌜ now (list .exit) ≡ columnsList (jobOf (now (job .entry))) (length (now (plan .entry))) (now (list .entry)) ⌝ }
+    ensures { λ _. ⌜ now (values .exit) ≡ valuesOf (ofPlanned (columnsAnswer (jobOf (now (job .entry))) (length (now (plan .entry))) (length (now (list .entry))))) (now (values .entry)) ⌝ }
+{
+    tell_planned(columns::columns(job, plan, list), values)
 }
