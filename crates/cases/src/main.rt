@@ -1,5 +1,8 @@
-// Runs the rings that document 01 works by hand: each one's answer and records, the plan's buffer exact and a byte short, and the loads at
-// telling ticks. Then the loads of a ring in which a board's load passes 65,535 on the way.
+// Runs the rings that document 01 works by hand: each one's answer and records, the plan's buffer exact and a byte short, the loads at
+// telling ticks, and the columns after the plan. Then the columns of a refused job and of a ring with more than 65,536 of them, and the loads
+// of a ring in which a board's load passes 65,535 on the way.
+mod lists_after;
+
 ghost use Prim.Native.Nat.{_≤_};
 use hop::Written;
 use libc::STDOUT_FILENO;
@@ -8,16 +11,16 @@ use std::num::wrapping_add_u64;
 use std::num::wrapping_add_usize;
 use std::num::wrapping_sub_usize;
 
-// The bytes of a plan's buffer: more than the worked rings' plans have.
+// The bytes of a plan's buffer: more than these rings' plans have, but for the wide ring's.
 const ROOM: usize = 120;
 
-// What every byte of a plan's buffer is before it is lent; no worked ring's plan has such a byte.
+// What every byte of a plan's buffer is before it is lent; no plan in such a buffer has the byte.
 const UNTOUCHED: u8 = 170;
 
-// What every place of a list is before it is lent; no board of these rings comes to that load at a tick asked for.
+// What every place of a list is before it is lent; no load and no column that is to be shown has that number.
 const UNTOLD: u32 = 77;
 
-// The places of a list: one more than the largest of these rings has boards.
+// The places of a list: one more than the largest of these rings has boards, and more than the worked rings have columns.
 const PLACES: usize = 34;
 
 // The length of the wide ring's plan: 983,808 sends. It stands on the stack, which has to have some 6 MB.
@@ -213,7 +216,7 @@ fn length_of(written: Written, room: usize) -> usize
     }
 }
 
-// A ring's answer and records, then its plan and its loads in other buffers and lists, then its loads at each tick.
+// A ring's answer and records, then its plan and its loads in other buffers and lists, then its loads at each tick, then its columns.
 fn show(label: &[u8], kind: u8, loads: &[u16], surpluses: &[i16], costs: &[u16], ticks: &[u32]) {
     let mut bytes = [0u8; 60];
     let mut plan = [UNTOUCHED; ROOM];
@@ -225,8 +228,10 @@ fn show(label: &[u8], kind: u8, loads: &[u16], surpluses: &[i16], costs: &[u16],
     show_answer(answer);
     end();
     show_records(&plan, moves);
-    show_exact(job, loads.len(), 15 + 6 * (moves as usize), &plan);
+    let long = 15 + 6 * (moves as usize);
+    show_exact(job, loads.len(), long, &plan);
     show_ticks(job, loads.len(), ticks, &plan);
+    lists_after::show_columns(job, long, &plan);
 }
 
 // The loads of the wide ring at a tick, its plan in a fresh buffer of the plan's length.
@@ -317,5 +322,7 @@ fn show_d_to_h() {
 fn main() {
     show_a_to_c();
     show_d_to_h();
+    lists_after::show_cut();
+    lists_after::show_many();
     show_wide();
 }
