@@ -67,21 +67,21 @@ fn word(plan: &[u8], at: usize) -> u64 {
 }
 
 // The place of record k.
-fn place(k: u32) -> usize
+pub(crate) fn place(k: u32) -> usize
     ensures { λ r. ⌜ r < 1000000000000 ⌝ }
 {
     15 + 6 * (k as usize)
 }
 
-fn direction_of(plan: &[u8], k: u32) -> u8 {
+pub(crate) fn direction_of(plan: &[u8], k: u32) -> u8 {
     byte(plan, place(k) + 1)
 }
 
-fn start_of(plan: &[u8], k: u32) -> u64 {
+pub(crate) fn start_of(plan: &[u8], k: u32) -> u64 {
     word(plan, place(k) + 2)
 }
 
-fn end_of(plan: &[u8], k: u32, cost: u32) -> u64 {
+pub(crate) fn end_of(plan: &[u8], k: u32, cost: u32) -> u64 {
     wrapping_add_u64(start_of(plan, k), cost as u64)
 }
 

@@ -1,6 +1,9 @@
-// Plans many rings twice, by the planner and by the second planner, and compares answers and bytes; and judges the planner's plans.
+// Plans many rings twice, by the planner and by the second planner, and compares answers and bytes; judges the planner's plans; and plays them
+// over the columns.
 mod damage;
 mod judge;
+mod listing;
+mod player;
 mod rings;
 mod second;
 mod table;
@@ -8,7 +11,9 @@ mod table;
 ghost use Prim.Native.Nat.{_≤_, _<_};
 use damage::Bytes;
 use libc::STDOUT_FILENO;
+use listing::Compared;
 use planner::Planned;
+use player::LISTS;
 use second::Answer;
 use second::length;
 use std::num::wrapping_add_u32;
@@ -37,6 +42,7 @@ struct Counts {
     differences: u32,
     judged: [u32; 4],
     invalid: u32,
+    lists: Compared,
 }
 
 fn least(a: usize, b: usize) -> usize
@@ -208,28 +214,33 @@ fn compare_with(
     job: Job,
     answer: Answer,
     bytes: &[u8],
-    room: usize,
     mine: &[u8],
     theirs: &mut [u8],
 ) -> Counts {
+    let room = room_of(answer, mine.len());
     let planned = plan_part(bytes, theirs, room);
     let differences = found(answer, planned, mine, theirs, room);
     let mut more = judged(counts, job, planned, theirs);
-    more.differences = wrapping_add_u32(counts.differences, differences);
     restore(theirs, room);
+    let short = compare_short(bytes, written(answer), theirs);
+    more.differences = wrapping_add_u32(counts.differences, wrapping_add_u32(differences, short));
     more
 }
 
 // One job.
-fn compare(counts: Counts, bytes: &[u8], mine: &mut [u8], theirs: &mut [u8]) -> Counts {
+fn compare(
+    counts: Counts,
+    bytes: &[u8],
+    mine: &mut [u8],
+    theirs: &mut [u8],
+    lists: &mut [u32],
+) -> Counts {
     let job = table::read(bytes);
     let answer = second::plan(job, mine);
-    let room = room_of(answer, mine.len());
     let all = counted(counts, job, answer);
-    let mut more = compare_with(all, job, answer, bytes, room, mine, theirs);
-    restore(mine, room);
-    let short = compare_short(bytes, written(answer), theirs);
-    more.differences = wrapping_add_u32(more.differences, short);
+    let both = compare_with(all, job, answer, bytes, mine, theirs);
+    let more = listing::compare(both, job, answer, bytes, mine, theirs, lists);
+    restore(mine, written(answer));
     more
 }
 
@@ -240,9 +251,10 @@ fn compare_first(
     length: usize,
     mine: &mut [u8],
     theirs: &mut [u8],
+    lists: &mut [u32],
 ) -> Counts {
     let end = least(length, bytes.len());
-    compare(counts, &bytes[0..end], mine, theirs)
+    compare(counts, &bytes[0..end], mine, theirs, lists)
 }
 
 // The job whole, and damaged in every way; the last damage aims at the refusal of this number.
@@ -253,12 +265,13 @@ fn compare_job(
     number: usize,
     mine: &mut [u8],
     theirs: &mut [u8],
+    lists: &mut [u32],
 ) -> Counts {
     let mut all = counts;
     for way in 0..6 {
         let damaged = damage::damaged(seed, job, way, number);
         let bytes = damaged.bytes;
-        all = compare_first(all, &bytes, damaged.length, mine, theirs);
+        all = compare_first(all, &bytes, damaged.length, mine, theirs, lists);
         all.damaged = more_if(all.damaged, 0 < way);
     }
     all
@@ -282,15 +295,16 @@ fn compare_ring(
     r: u32,
     mine: &mut [u8],
     theirs: &mut [u8],
+    lists: &mut [u32],
 ) -> Counts {
     let ring = rings::draw_ring(seed, r);
     let job = damage::job_of(ring);
     let mut all = counts;
     all.differences = wrapping_add_u32(counts.differences, write_differs(ring, job));
-    compare_job(all, seed, job, 7 + (r % 5) as usize, mine, theirs)
+    compare_job(all, seed, job, 7 + (r % 5) as usize, mine, theirs, lists)
 }
 
-fn compare_all(mine: &mut [u8], theirs: &mut [u8]) -> Counts {
+fn compare_all(mine: &mut [u8], theirs: &mut [u8], lists: &mut [u32]) -> Counts {
     let mut counts = Counts {
         waiting: 0,
         loads: 0,
@@ -305,10 +319,11 @@ fn compare_all(mine: &mut [u8], theirs: &mut [u8]) -> Counts {
         differences: 0,
         judged: [0; 4],
         invalid: 0,
+        lists: listing::none(),
     };
     let mut seed: u64 = 1;
     for r in 0..RINGS {
-        counts = compare_ring(counts, &mut seed, r, mine, theirs);
+        counts = compare_ring(counts, &mut seed, r, mine, theirs, lists);
     }
     counts
 }
@@ -362,13 +377,40 @@ fn print_found(counts: Counts) {
     line(b"plans that are no valid schedule: ", counts.invalid);
 }
 
+fn print_play_limits(lists: Compared) {
+    line(b"plays of 128 boards: ", lists.widest);
+    line(b"plays with more than 65536 columns: ", lists.longest);
+    line(b"plays with sends and a load of 4095: ", lists.loads);
+    line(b"plays with sends and a cost of 8000: ", lists.costs);
+    line(b"plays with a finish past 16 bits: ", lists.late);
+}
+
+fn print_lists(lists: Compared) {
+    let played = lists.played;
+    numbered(b"plans played of kind ", 1, played[1]);
+    numbered(b"plans played of kind ", 2, played[2]);
+    numbered(b"plans played of kind ", 3, played[3]);
+    line(b"boards compared: ", lists.boards);
+    line(b"columns compared: ", lists.columns);
+    line(b"plays in which a board waits: ", lists.waiting);
+    line(b"plays in which a list wraps: ", lists.wrapped);
+    print_play_limits(lists);
+    line(b"refused 16: ", lists.sixteen);
+    line(b"lists a place short: ", lists.short);
+    line(b"faults of play: ", lists.faults);
+    line(b"differences in columns: ", lists.differences);
+}
+
 fn main() {
     let mut mine = [UNTOUCHED; 65535];
     let mut theirs = [UNTOUCHED; 65535];
-    let counts = compare_all(&mut mine, &mut theirs);
+    let mut lists = [listing::EMPTY; LISTS];
+    let counts = compare_all(&mut mine, &mut theirs, &mut lists);
     let refused = counts.refused;
+    let columns = counts.lists;
     print_rings(counts);
     print_limits(counts);
     print_refusals(refused);
     print_found(counts);
+    print_lists(columns);
 }

@@ -283,7 +283,7 @@ fn take_rounds(ring: Ring, n: usize, rounds: u32, cost: u32, buf: &mut [u8]) -> 
     all
 }
 
-fn refused(number: u8, board: u8) -> Answer {
+pub(crate) fn refused(number: u8, board: u8) -> Answer {
     Answer {
         number,
         board,

@@ -27,6 +27,8 @@ pub(crate) struct Job {
     // the greatest of each
     pub(crate) load: u32,
     pub(crate) cost: u32,
+    // the sum of the loads
+    pub(crate) columns: u32,
 }
 
 // n as a number of boards.
@@ -150,6 +152,7 @@ pub(crate) fn read(s: &[u8]) -> Job {
         costs: [0; 128],
         load: 0,
         cost: 0,
+        columns: 0,
     };
     let mut rank = head_rank(s);
     let mut sum: u32 = 0;
@@ -166,6 +169,7 @@ pub(crate) fn read(s: &[u8]) -> Job {
         job.costs[i] = cost;
         job.load = most(job.load, load);
         job.cost = most(job.cost, cost);
+        job.columns = wrapping_add_u32(job.columns, load);
         sum = wrapping_add_u32(sum, surplus);
         rank = least(rank, board_rank(job.kind, i, load, after, cost, first));
     }

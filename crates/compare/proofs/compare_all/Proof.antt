@@ -1,4 +1,4 @@
--- Every ring is passed once, and the buffers keep their lengths.
+-- Every ring is passed once, and the buffers and lists keep their lengths.
 use borrow.Author.Needs.{needs}
 use Prim.Native.Nat.{_≤_, _-_}
 use mathlib.Core.Path.{_≡_}
@@ -7,10 +7,13 @@ use Rattle.compare.proofs.compare_all.Statement.{statement}
 use Rattle.compare.proofs.compare_all.Tie as tie
 
 abbrev Inv-loop : tie.InvT-loop
-Inv-loop mine₀ theirs₀ counts₀ seed₀ r₀ mine theirs counts seed r = (r ≤ 24000) × (length mine ≡ length mine₀) × (length theirs ≡ length theirs₀)
+Inv-loop mine₀ theirs₀ lists₀ counts₀ seed₀ r₀ mine theirs lists counts seed r = (r ≤ 24000) × (length mine ≡ length mine₀) × (length theirs ≡ length theirs₀) × (length lists ≡ length lists₀)
 
 abbrev μ-loop : tie.MeasureT-loop
-μ-loop mine₀ theirs₀ counts₀ seed₀ r₀ mine theirs counts seed r = 24000 - r
+μ-loop mine₀ theirs₀ lists₀ counts₀ seed₀ r₀ mine theirs lists counts seed r = 24000 - r
+
+none-requires : tie.Need-none-requires Inv-loop μ-loop
+none-requires c κs = search needs
 
 loop-holds : tie.Need-loop-holds Inv-loop μ-loop
 loop-holds c = search needs
@@ -33,6 +36,9 @@ same-length c = search needs
 same-length-2 : tie.Need-same-length-2 Inv-loop μ-loop
 same-length-2 c = search needs
 
+same-length-3 : tie.Need-same-length-3 Inv-loop μ-loop
+same-length-3 c = search needs
+
 returns : tie.Need-returns Inv-loop μ-loop
 returns c = search needs
 
@@ -42,6 +48,7 @@ compare-all-spec =
     (tie.spec
     Inv-loop
     μ-loop
+    none-requires
     loop-holds
     compare-ring-requires
     add-r
@@ -49,4 +56,5 @@ compare-all-spec =
     loop-again
     same-length
     same-length-2
+    same-length-3
     returns)

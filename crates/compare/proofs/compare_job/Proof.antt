@@ -1,4 +1,4 @@
--- Every way is passed once, and the buffers keep their lengths.
+-- Every way is passed once, and the buffers and lists keep their lengths.
 use borrow.Author.Needs.{needs}
 use Prim.Native.Nat.{_≤_, _-_}
 use mathlib.Core.Path.{_≡_}
@@ -7,10 +7,10 @@ use Rattle.compare.proofs.compare_job.Statement.{statement}
 use Rattle.compare.proofs.compare_job.Tie as tie
 
 abbrev Inv-loop : tie.InvT-loop
-Inv-loop seed₀ job number mine₀ theirs₀ all₀ way₀ seed mine theirs all way = (way ≤ 6) × (length mine ≡ length mine₀) × (length theirs ≡ length theirs₀)
+Inv-loop seed₀ job number mine₀ theirs₀ lists₀ all₀ way₀ seed mine theirs lists all way = (way ≤ 6) × (length mine ≡ length mine₀) × (length theirs ≡ length theirs₀) × (length lists ≡ length lists₀)
 
 abbrev μ-loop : tie.MeasureT-loop
-μ-loop seed₀ job number mine₀ theirs₀ all₀ way₀ seed mine theirs all way = 6 - way
+μ-loop seed₀ job number mine₀ theirs₀ lists₀ all₀ way₀ seed mine theirs lists all way = 6 - way
 
 loop-holds : tie.Need-loop-holds Inv-loop μ-loop
 loop-holds c = search needs
@@ -42,6 +42,9 @@ same-length c = search needs
 same-length-2 : tie.Need-same-length-2 Inv-loop μ-loop
 same-length-2 c = search needs
 
+same-length-3 : tie.Need-same-length-3 Inv-loop μ-loop
+same-length-3 c = search needs
+
 returns : tie.Need-returns Inv-loop μ-loop
 returns c = search needs
 
@@ -61,4 +64,5 @@ compare-job-spec =
     loop-again
     same-length
     same-length-2
+    same-length-3
     returns)

@@ -85,6 +85,9 @@ most-requires-2 c κs = search needs
 wrapping-add-u32-requires : tie.Need-wrapping-add-u32-requires Inv-loop μ-loop
 wrapping-add-u32-requires c κs = search needs
 
+wrapping-add-u32-requires-2 : tie.Need-wrapping-add-u32-requires-2 Inv-loop μ-loop
+wrapping-add-u32-requires-2 c κs = search needs
+
 board-rank-requires : tie.Need-board-rank-requires Inv-loop μ-loop
 board-rank-requires c κs = search needs
 
@@ -143,6 +146,7 @@ read-spec =
     most-requires
     most-requires-2
     wrapping-add-u32-requires
+    wrapping-add-u32-requires-2
     board-rank-requires
     least-requires
     add-i
