@@ -1,6 +1,6 @@
 // The loads query: the plan of a job in a lent buffer, and the load of each board at a tick in a lent list.
 ghost use mathlib.Core.Path.{_≡_};
-ghost use Prim.Native.Nat.{ℕ, _+_, _*_, _<_, _≤_};
+ghost use Prim.Native.Nat.{ℕ, _+_, _<_, _≤_};
 ghost use lib.Dec.{eqb};
 ghost use lib.ListN.{length, getD};
 ghost use Rattle.ring.specs.Numbers.{pick, one-if};
@@ -14,7 +14,6 @@ ghost use Rattle.loads.specs.Query.{boardsOf, queryAnswer, queryPlan, qu
 use hop::Check;
 use hop::MOST_BOARDS;
 use planner::Planned;
-use ring::Ticks;
 
 // What each board has received and sent by a tick.
 struct Counts {
@@ -44,27 +43,13 @@ fn by_direction(direction: u8, forward: usize, back: usize) -> usize
     if direction == 0 { forward } else { back }
 }
 
-// Four bytes, the highest first.
-fn quad(a: u8, b: u8, c: u8, d: u8) -> u32
-    ensures { λ r. ⌜ r ≡ (a * 256 + b) * 65536 + (c * 256 + d) ⌝ }
-{
-    ((a as u32) * 256 + (b as u32)) * 65536 + ((c as u32) * 256 + (d as u32))
-}
-
 // The 32 bits at place k.
 fn word(s: &[u8], k: usize) -> u32
     requires { ⌜ k + 4 ≤ length (now s) ⌝ }
     ensures { λ r. ⌜ r ≡ wordAt (now (s .entry)) k ⌝ }
 {
     let low = k + 2;
-    quad(s[k], s[k + 1], s[low], s[low + 1])
-}
-
-// The tick at which a send ends.
-fn end_of(start: u32, cost: u16) -> Ticks
-    ensures { λ r. ⌜ r .0 ≡ start + cost ⌝ }
-{
-    Ticks((start as u64) + (cost as u64))
+    ring::quad(s[k], s[k + 1], s[low], s[low + 1])
 }
 
 // What each of n boards has received and sent by a tick, of the sends that a plan's records say.
@@ -80,7 +65,7 @@ fn counts_by(plan: &[u8], moves: u32, n: usize, costs: &[u16], tick: u32) -> Cou
         let link = plan[at] as usize;
         let direction = plan[at + 1];
         let start = word(plan, at + 2);
-        let end = end_of(start, costs[link]).0;
+        let end = ring::end_of(start, costs[link]).0;
         let ahead = next(link, n);
         let to = by_direction(direction, ahead, link);
         let from = by_direction(direction, link, ahead);

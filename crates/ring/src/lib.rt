@@ -1,6 +1,6 @@
-// The leaves that all else stands on: items and ticks, the time of a link, and a board within its limits.
+// The leaves that all else stands on: items and ticks, the time of a link, the end of a send, four bytes, and a board within its limits.
 ghost use mathlib.Core.Path.{_≡_};
-ghost use Prim.Native.Nat.{_*_};
+ghost use Prim.Native.Nat.{_+_, _*_};
 ghost use Rattle.ring.specs.Limits.{boardOf, faultOf};
 
 // Items are counted in items and time in ticks.
@@ -13,6 +13,20 @@ pub fn link_time(cost: u16, items: Items) -> Ticks
     ensures { λ r. ⌜ r .0 ≡ cost * items .0 ⌝ }
 {
     Ticks((cost as u64) * (items.0 as u64))
+}
+
+// The tick at which a send ends.
+pub fn end_of(start: u32, cost: u16) -> Ticks
+    ensures { λ r. ⌜ r .0 ≡ start + cost ⌝ }
+{
+    Ticks((start as u64) + (cost as u64))
+}
+
+// The number of four bytes, the highest first.
+pub fn quad(a: u8, b: u8, c: u8, d: u8) -> u32
+    ensures { λ r. ⌜ r ≡ (a * 256 + b) * 65536 + (c * 256 + d) ⌝ }
+{
+    ((a as u32) * 256 + (b as u32)) * 65536 + ((c as u32) * 256 + (d as u32))
 }
 
 // A board's numbers, which only `new` puts together, within the limits. Its link is the one to the next board.
