@@ -73,9 +73,7 @@ pub extern "C" fn fallowroe_check(job: &[u8], values: &mut [u64; 3]) -> u64
     ensures { λ r. ⌜ r ≡ codeOf (ofCheck (checkOf (now (job .entry)))) ⌝ }
     ensures { λ _. ⌜ now (values .exit) ≡ valuesOf (ofCheck (checkOf (now (job .entry)))) (now (values .entry)) ⌝ }
 {
-    let read = hop::read(job);
-    let answer = read.answer;
-    tell_check(answer, values)
+    tell_check(hop::checked(job), values)
 }
 
 // The job of a kind and three lists, written at the front of a buffer: its length.

@@ -1,6 +1,7 @@
-// The edges of document 01, asked of the reader and the writer: one line for each.
+// The edges of document 01, asked of the reader, of its check alone and of the writer: one line for each.
 ghost use Prim.Native.Nat.{_≤_, _<_};
 use hop::Check;
+use hop::Numbers;
 use hop::Written;
 use libc::STDOUT_FILENO;
 
@@ -84,20 +85,57 @@ fn two(kind: u8, a: Bits, b: Bits) -> [u8; 19] {
     ]
 }
 
-// What the reader says of a job of two boards.
-fn reads(label: &[u8], kind: u8, a: Bits, b: Bits) {
-    let bytes = two(kind, a, b);
-    let job = hop::read(&bytes);
+// A number for what an answer says, another for each.
+fn told(answer: Check) -> u32 {
+    match answer {
+        Check::Refused { number: no, board } => (no as u32) * 256 + (board as u32),
+        Check::Ring { kind, n } => 65536 + (kind as u32) * 256 + (n as u32),
+    }
+}
+
+// What the reader says of bytes, and a line more where the check alone says something else.
+fn says(label: &[u8], bytes: &[u8]) {
+    let job = hop::read(bytes);
     let answer = job.answer;
     show(label, answer);
+    if told(answer) != told(hop::checked(bytes)) {
+        io::write_all(STDOUT_FILENO, b"checked otherwise\n");
+    }
+}
+
+// What it says of a job of two boards.
+fn reads(label: &[u8], kind: u8, a: Bits, b: Bits) {
+    let bytes = two(kind, a, b);
+    says(label, &bytes);
 }
 
 // What it says of the first bytes of a slice.
 fn reads_first(label: &[u8], bytes: &[u8], length: usize) {
     if length <= bytes.len() {
-        let job = hop::read(&bytes[..length]);
-        let answer = job.answer;
-        show(label, answer);
+        says(label, &bytes[..length]);
+    }
+}
+
+// LABEL LOAD SURPLUS COST, where the surplus is −3 or 0.
+fn show_numbers(label: &[u8], board: Numbers) {
+    io::write_all(STDOUT_FILENO, label);
+    number(b" ", board.load as u64);
+    let surplus = board.surplus;
+    if surplus == -3 {
+        io::write_all(STDOUT_FILENO, b" -3");
+    } else if surplus == 0 {
+        io::write_all(STDOUT_FILENO, b" 0");
+    } else {
+        io::write_all(STDOUT_FILENO, b" another");
+    }
+    number(b" ", board.cost as u64);
+    end();
+}
+
+// The numbers of board i in the first bytes of a slice.
+fn numbers(label: &[u8], bytes: &[u8], length: usize, i: u8) {
+    if length <= bytes.len() {
+        show_numbers(label, hop::numbers_of(&bytes[..length], i));
     }
 }
 
@@ -222,6 +260,17 @@ fn order() {
     reads(b"10-or-11", 1, Bits(2, 1, 1), Bits(2, 0, 2));
 }
 
+// The numbers of one board, whole, cut and past the end.
+fn single() {
+    let bytes = two(2, Bits(258, 65533, 772), Bits(1, 0, 3));
+    numbers(b"numbers-first", &bytes, 19, 0);
+    numbers(b"numbers-last", &bytes, 19, 1);
+    numbers(b"numbers-cut", &bytes, 18, 1);
+    numbers(b"numbers-past", &bytes, 19, 2);
+    numbers(b"numbers-255", &bytes, 19, 255);
+    numbers(b"numbers-none", &bytes, 0, 0);
+}
+
 // The writer's refusals by its lists, and by its buffer.
 fn lists() {
     writes_lists(b"w-lists-0", 2, 2, 0, 0, 0);
@@ -275,6 +324,7 @@ fn main() {
     shapes();
     limits();
     order();
+    single();
     lists();
     boards();
 }

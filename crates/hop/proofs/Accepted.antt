@@ -10,10 +10,10 @@ use Rattle.hop.specs.declared.Check.the-variants.{Ring, Refused}
 use Rattle.ring.specs.Lists.{each, eachℤ}
 use Rattle.ring.specs.Plan.{surplus}
 use Rattle.ring.proofs.Signed.{taken-off}
-use Rattle.hop.specs.Read.{loadIn, surplusIn, costIn, headOf, checkOf, beside, jobOf}
-use Rattle.hop.proofs.Passed.{went-on, Passed, passed, ring-accepted}
+use Rattle.hop.specs.Read.{headOf, checkOf, beside, jobOf}
+use Rattle.hop.proofs.Passed.{Passed, passed, ring-accepted}
 use Rattle.hop.specs.Lawful.{Headed}
-use Rattle.hop.proofs.Reading.{headed, lengths, check-is}
+use Rattle.hop.proofs.Reading.{check-head, check-headed, lengths, check-is}
 
 -- a check's answer is the job's, whatever stands beside it
 answer-of : (s : List ℕ) (c : Check) → beside s c .answer ≡ c
@@ -30,18 +30,14 @@ module _ (s : List ℕ) (k n : ℕ) (e : jobOf s .answer ≡ Ring k n) where
   check-ring = sym (job-answer s) ∙ e
 
   pub head-ring : headOf s ≡ Ring k n
-  unfolding checkOf
-  head-ring =
-      let (a, b, on, e) = went-on (headOf s) _ k n check-ring in
-      let p = passed a b (loadIn s) (surplusIn s) (costIn s) k n e in
-      on ∙ (λ t. Ring (p .kind-is t) (p .n-is t))
+  head-ring = check-head s k n check-ring
 
   pub job-beside : jobOf s ≡ beside s (Ring k n)
   unfolding jobOf
   job-beside = ap (beside s) check-ring
 
   pub header : Headed s k n
-  header = headed s k n head-ring
+  header = check-headed s k n check-ring
 
   -- the arrays hold a ring that passed
   pub job-passed : Passed k n (each (jobOf s .loads)) (eachℤ (jobOf s .surpluses)) (each (jobOf s .costs)) k n

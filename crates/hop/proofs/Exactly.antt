@@ -8,21 +8,19 @@ use native.Mathlib.Omega.{arith}
 use lib.Dec.{eqb}
 use lib.IntN.{ℤ}
 use lib.ListN.{length}
-use borrow.Author.Tests.{lt-ltb, le-ltb, eq-eqb, eqb-true, eqb-false}
+use borrow.Author.Tests.{lt-ltb, le-ltb, eq-eqb, ne-eqb, eqb-true, eqb-false}
 use Rattle.ring.specs.Boards.{Within, OneCost}
 use Rattle.ring.specs.Lists.{each, eachℤ}
 use Rattle.ring.proofs.Sound.{after-within, sound}
 use Rattle.hop.specs.declared.Check.the-variants.{Ring}
 use Rattle.hop.specs.declared.Written.the-variants.{Bytes, Refused as Unwritten}
-use Rattle.hop.specs.Refusals.{boardFault, balancedOf, alikeOf, ringCheck}
+use Rattle.hop.specs.Refusals.{boardFault, costFault, balancedOf, alikeOf, ringCheck}
 use Rattle.hop.specs.Read.{jobLength, loadIn, surplusIn, costIn, headOf, checkOf}
 use Rattle.hop.specs.Write.{listsOf, roomOf, writtenOf}
 use Rattle.hop.specs.Lawful.{Lawful, LawfulJob, LawfulLists}
 use Rattle.hop.proofs.First.{goes, passed as none-faulty}
-use Rattle.hop.proofs.Ends.{any-cost, one-cost}
 use Rattle.hop.proofs.Passed.{passed}
-use Rattle.hop.proofs.Reading.{head-is}
-use Rattle.hop.proofs.Accepted.{job-answer, head-ring, header}
+use Rattle.hop.proofs.Reading.{head-is, check-head, check-headed}
 use Rattle.hop.proofs.Listing.{listed, lists-ring, passes}
 
 module _ (kind n : ℕ) (load : ℕ → ℕ) (surplus : ℕ → ℤ) (cost : ℕ → ℕ) where
@@ -51,8 +49,10 @@ module _ (kind n : ℕ) (load : ℕ → ℕ) (surplus : ℕ → ℤ) (cost : ℕ
     alike-ring : alikeOf kind n surplus cost ≡ balancedOf kind n surplus
     alike-ring =
         elim two-or [
-          | inl two ↦ any-cost kind n surplus cost two
-          | inr one ↦ one-cost kind n surplus cost (one .0) (record { at = λ i h. rw (eq-eqb (cost i) (cost 0) (l .alike (one .1) i h)) })
+          | inl two ↦ rw (eq-eqb kind 2 two)
+          | inr one ↦
+              rw (ne-eqb kind 2 (one .0))
+              (none-faulty (costFault cost) n (balancedOf kind n surplus) (record { at = λ i h. rw (eq-eqb (cost i) (cost 0) (l .alike (one .1) i h)) }))
         ]
 
     -- and lawful numbers are let through
@@ -69,8 +69,7 @@ module _ (s : List ℕ) (kind n : ℕ) where
   pub read-lawful : checkOf s ≡ Ring kind n → LawfulJob s kind n
   unfolding checkOf
   read-lawful e =
-      let a = job-answer s ∙ e in
-      (header s kind n a, lawful kind n (loadIn s) (surplusIn s) (costIn s) kind n (goes (headOf s) _ kind n (head-ring s kind n a) ∙ e))
+      (check-headed s kind n e, lawful kind n (loadIn s) (surplusIn s) (costIn s) kind n (goes (headOf s) _ kind n (check-head s kind n e) ∙ e))
 
   pub lawful-read : LawfulJob s kind n → checkOf s ≡ Ring kind n
   unfolding checkOf

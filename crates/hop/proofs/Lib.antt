@@ -1,10 +1,11 @@
 pub mod SignedSum
 pub mod Bits16
 pub mod First
-pub mod Ends
 pub mod Same
 pub mod Passed
 pub mod Reading
+pub mod Walked
+pub mod Filling
 pub mod Accepted
 pub mod Grow
 pub mod Writing

@@ -10,6 +10,10 @@ use Rattle.hop.proofs.board.Kinds as board
 use Rattle.hop.proofs.board.Reads as board-said
 use Rattle.hop.proofs.job_length.Kinds as job-length
 use Rattle.hop.proofs.job_length.Reads as job-length-said
+use Rattle.hop.proofs.reader.checked.Kinds as checked
+use Rattle.hop.proofs.reader.checked.Reads as checked-said
+use Rattle.hop.proofs.reader.numbers_of.Kinds as numbers-of
+use Rattle.hop.proofs.reader.numbers_of.Reads as numbers-of-said
 use Rattle.hop.proofs.reader.read.Kinds as read
 use Rattle.hop.proofs.reader.read.Reads as read-said
 use Rattle.hop.proofs.writer.write.Kinds as write
@@ -27,6 +31,14 @@ one-board κs a x y s t p q = p ∙ sym q
 pub one-job-length : (κs : Lfts 0) (a : Dens κs job-length.ps) (x y : resT job-length.r κs .Denot) (s t : AtExit (endedOf 0 job-length.ps job-length.r) κs)
     → job-length-said.Post κs a x s → job-length-said.Post κs a y t → x ≡ y
 one-job-length κs a x y s t p q = p ∙ sym q
+
+pub one-checked : (κs : Lfts 1) (a : Dens κs checked.ps) (x y : resT checked.r κs .Denot) (s t : AtExit (endedOf 1 checked.ps checked.r) κs)
+    → checked-said.Post κs a x s → checked-said.Post κs a y t → x ≡ y
+one-checked κs a x y s t p q = p ∙ sym q
+
+pub one-numbers-of : (κs : Lfts 1) (a : Dens κs numbers-of.ps) (x y : resT numbers-of.r κs .Denot) (s t : AtExit (endedOf 1 numbers-of.ps numbers-of.r) κs)
+    → numbers-of-said.Post κs a x s → numbers-of-said.Post κs a y t → x ≡ y
+one-numbers-of κs a x y s t p q = p ∙ sym q
 
 pub one-read : (κs : Lfts 1) (a : Dens κs read.ps) (x y : resT read.r κs .Denot) (s t : AtExit (endedOf 1 read.ps read.r) κs)
     → read-said.Post κs a x s → read-said.Post κs a y t → x ≡ y

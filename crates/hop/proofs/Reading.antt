@@ -1,7 +1,7 @@
--- What is known of the bytes of a job, and the ends of the reader. Assumes nothing.
-use mathlib.Core.Path.{_≡_, sym, ap, _∙_}
+-- What is known of the bytes of a job, and of arrays that hold what they say. Assumes nothing.
+use mathlib.Core.Path.{_≡_, ap, _∙_}
 use mathlib.Core.List.{List}
-use Prim.Native.Nat.{ℕ, _≤_}
+use Prim.Native.Nat.{ℕ, _+_, _≤_}
 use native.Mathlib.Omega.{arith}
 use lib.Dec.{ltb, eqb}
 use lib.IntN.{pos}
@@ -9,14 +9,13 @@ use lib.ListN.{length, getD, replicate}
 use borrow.Author.Tests.{le-ltb, eq-eqb, eqb-true}
 use Rattle.ring.specs.Bytes.{halfAt}
 use Rattle.ring.proofs.Fill.{Below, fill-at, fill-length}
-use Rattle.hop.specs.declared.Check.{Check}
 use Rattle.hop.specs.declared.Check.the-variants.{Ring, Refused}
 use Rattle.hop.specs.declared.Job.{Job}
 use Rattle.ring.specs.Lists.{each, eachℤ}
 use Rattle.hop.specs.Refusals.{unlike, shapeOf, ringCheck}
-use Rattle.hop.specs.Read.{jobLength, loadIn, surplusIn, costIn, sizesOf, markOf, headOf, checkOf, bare, beside, jobOf}
+use Rattle.hop.specs.Read.{jobLength, loadIn, surplusIn, costIn, storedIn, numbersIn, sizesOf, markOf, headOf, checkOf, beside}
 use Rattle.hop.specs.Lawful.{Headed}
-use Rattle.hop.proofs.First.{no, yes, stands, goes}
+use Rattle.hop.proofs.First.{no, yes, goes}
 use Rattle.hop.proofs.Same.{check-same}
 use Rattle.hop.proofs.Passed.{went-on, shaped, shape-ring, passed}
 
@@ -54,14 +53,20 @@ module _ (s : List ℕ) where
   head-is k n h =
       rw (le-ltb (length s) 7 (omega (arith, h .whole)), eq-eqb (getD s 0 0) 72 (h .h), eq-eqb (getD s 1 0) 79 (h .o), eq-eqb (getD s 2 0) 80 (h .p), eq-eqb (halfAt s 3) 1 (h .version), h .kind-is, h .n-is, shape-ring k n (h .kinds) (h .boards), eq-eqb (length s) (jobLength n) (h .whole))
 
-  -- a refusal has zeros beside it
-  pub refused : (c : Check) (a b : ℕ) → c ≡ checkOf s → c ≡ Refused a b → bare c ≡ jobOf s
-  unfolding jobOf
-  refused c a b e q = ap bare q ∙ ap (beside s) (sym q ∙ e)
-
-  pub head-refused : (c : Check) (a b : ℕ) → c ≡ headOf s → c ≡ Refused a b → bare c ≡ jobOf s
+  -- what the check lets through has such a head
+  pub check-head : (k n : ℕ) → checkOf s ≡ Ring k n → headOf s ≡ Ring k n
   unfolding checkOf
-  head-refused c a b e q = refused c a b (stands c (headOf s) _ a b e q) q
+  check-head k n e =
+      let (a, b, on, f) = went-on (headOf s) _ k n e in
+      let p = passed a b (loadIn s) (surplusIn s) (costIn s) k n f in
+      on ∙ (λ t. Ring (p .kind-is t) (p .n-is t))
+
+  pub check-headed : (k n : ℕ) → checkOf s ≡ Ring k n → Headed s k n
+  check-headed k n e = headed k n (check-head k n e)
+
+  -- bytes that have board i say its numbers
+  pub numbers-are : (i : ℕ) → jobLength i + 6 ≤ length s → numbersIn s i ≡ storedIn s i
+  numbers-are i h = rw (le-ltb (length s) (jobLength i + 6) h)
 
   module _ (k n : ℕ) (d : headOf s ≡ Ring k n) (j : Job) (is : j ≡ beside s (Ring k n)) where
     pub lengths : (length (j .loads) ≡ 128) × (length (j .surpluses) ≡ 128) × (length (j .costs) ≡ 128)
@@ -88,9 +93,3 @@ module _ (s : List ℕ) where
         check-same k n (omega arith) (each (j .loads)) (loadIn s) (eachℤ (j .surpluses)) (surplusIn s) (each (j .costs)) (costIn s)
         (loads-are (h .1)) (surpluses-are (h .1)) (costs-are (h .1))
         ∙ goes (headOf s) _ k n d
-
-    pub job-is : (a b : ℕ) → checkOf s ≡ Ring a b → j ≡ jobOf s
-    unfolding jobOf
-    job-is a b e =
-        let p = passed k n (each (j .loads)) (eachℤ (j .surpluses)) (each (j .costs)) a b (check-is ∙ e) in
-        is ∙ ap (beside s) ((λ t. Ring (p .kind-is t) (p .n-is t)) ∙ sym e)

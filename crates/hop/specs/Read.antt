@@ -12,6 +12,7 @@ use Rattle.ring.specs.Bytes.{halfAt}
 use Rattle.hop.specs.declared.Check.{Check}
 use Rattle.hop.specs.declared.Check.the-variants.{Ring, Refused}
 use Rattle.hop.specs.declared.Job.{Job}
+use Rattle.hop.specs.declared.Numbers.{Numbers}
 use Rattle.hop.specs.Refusals.{unlike, goesOn, shapeOf, ringCheck}
 
 -- the length of a job of n boards, and so the place of board n's numbers in a longer one
@@ -29,6 +30,14 @@ surplusIn s i = toZ w16 (halfAt s (jobLength i + 2))
 -- the cost of link i
 abbrev pub costIn : List ℕ → ℕ → ℕ
 costIn s i = halfAt s (jobLength i + 4)
+
+-- the numbers of board i as the bytes have them
+abbrev pub storedIn : List ℕ → ℕ → Numbers
+storedIn s i = record { load = loadIn s i; surplus = surplusIn s i; cost = costIn s i }
+
+-- the same, and zeros where the bytes end before that board's do
+abbrev pub numbersIn : List ℕ → ℕ → Numbers
+numbersIn s i = pick (ltb (length s) (jobLength i + 6)) (record { load = 0; surplus = pos 0; cost = 0 }) (storedIn s i)
 
 -- refusals 4 to 6, or the kind and n
 abbrev pub sizesOf : List ℕ → Check

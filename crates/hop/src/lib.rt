@@ -8,6 +8,8 @@ mod reader;
 mod rules;
 mod writer;
 
+pub use reader::checked;
+pub use reader::numbers_of;
 pub use reader::read;
 pub use writer::write;
 
@@ -53,6 +55,13 @@ pub struct Job {
     pub loads: [u16; MOST_BOARDS],
     pub surpluses: [i16; MOST_BOARDS],
     pub costs: [u16; MOST_BOARDS],
+}
+
+// The numbers of one board.
+pub struct Numbers {
+    pub load: u16,
+    pub surplus: i16,
+    pub cost: u16,
 }
 
 // What the job writer answers: how many bytes it wrote, or the refusal's number and board.

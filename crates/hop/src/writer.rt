@@ -4,14 +4,35 @@ ghost use mathlib.Core.List.{_++_};
 ghost use Prim.Native.Nat.{_≤_};
 ghost use lib.ListN.{length, drop};
 ghost use Rattle.ring.specs.Lists.{each, eachℤ};
+ghost use Rattle.hop.specs.Refusals.{ringCheck};
 ghost use Rattle.hop.specs.Read.{jobLength};
 ghost use Rattle.hop.specs.Write.{headBytes, recordBytes, jobBytes, listsOf, writtenOf, bufferOf};
 use crate::Check;
 use crate::Written;
 use crate::bits::unsigned;
 use crate::job_length;
-use crate::rules::boards;
+use crate::rules::settled;
 use crate::rules::shape;
+use crate::rules::unseen;
+use crate::rules::with_board;
+
+// Refusals 7 to 11 of n boards of lists, or the ring.
+fn boards(kind: u8, n: u8, loads: &[u16], surpluses: &[i16], costs: &[u16]) -> Check
+    requires { ⌜ (1 ≤ n) × (n ≤ 128) × (n ≤ length (now loads)) × (n ≤ length (now surpluses)) × (n ≤ length (now costs)) ⌝ }
+    ensures { λ r. ⌜ r ≡ ringCheck kind n (each (now (loads .entry))) (eachℤ (now (surpluses .entry))) (each (now (costs .entry))) ⌝ }
+{
+    let mut seen = unseen(costs[0]);
+    for i in 0..n {
+        let k = i as usize;
+        let surplus = surpluses[k];
+        seen = with_board(seen, i, loads[k], surplus, costs[k]);
+        let number = seen.fault;
+        if number != 0 {
+            return Check::Refused { number, board: i };
+        }
+    }
+    settled(kind, n, seen)
+}
 
 // Refusals 4 to 11 of a writer's lists, or the kind and n.
 fn lists(kind: u8, loads: &[u16], surpluses: &[i16], costs: &[u16]) -> Check

@@ -5,14 +5,11 @@ use borrow.Author.Needs.{needs}
 use Rattle.edges.proofs.reads_first.Statement.{statement}
 use Rattle.edges.proofs.reads_first.Tie as tie
 
-slice-aggregate-read : tie.Need-slice-aggregate-read
-slice-aggregate-read c = sym (length-take-le _ _ (c .before .if1 .taken))
+slice-aggregate-says : tie.Need-slice-aggregate-says
+slice-aggregate-says c = sym (length-take-le _ _ (c .before .if1 .taken))
 
-read-requires : tie.Need-read-requires
-read-requires c κs = search needs
-
-show-requires : tie.Need-show-requires
-show-requires c κs = search needs
+says-requires : tie.Need-says-requires
+says-requires c κs = search needs
 
 returns : tie.Need-returns
 returns c = search needs
@@ -22,4 +19,4 @@ returns-2 c = search needs
 
 pub reads-first-spec : {M : Type 1} → statement M
 reads-first-spec =
-    tie.close (tie.spec slice-aggregate-read read-requires show-requires returns returns-2)
+    tie.close (tie.spec slice-aggregate-says says-requires returns returns-2)

@@ -1,97 +1,99 @@
--- `reader::read`: the first seven bytes, then the check of the numbers that the arrays were filled with. Assumes nothing.
+-- `reader::read`: the first i places hold what the bytes say. Assumes nothing.
 use borrow.Author.Needs.{needs}
-use mathlib.Core.Path.{_≡_, sym, _∙_}
+use mathlib.Core.Path.{sym, _∙_}
+use Prim.Native.Nat.{_-_}
 use native.Mathlib.Omega.{arith}
 use denote.Ref.{now}
-use Rattle.hop.specs.declared.Check.the-variants.{Ring}
-use Rattle.hop.specs.Read.{headOf, checkOf}
-use Rattle.hop.proofs.Reading.{headed, head-refused, refused, lengths, check-is, job-is}
+use Rattle.hop.proofs.Reading.{numbers-are}
+use Rattle.hop.proofs.Filling.{Filled, none, more, all, refused}
 use Rattle.hop.proofs.reader.read.Statement.{statement}
 use Rattle.hop.proofs.reader.read.Tie as tie
 
-head-requires : tie.Need-head-requires
-head-requires c κs = search needs
+abbrev Inv-loop : tie.InvT-loop
+Inv-loop s job₀ n i₀ job i = Filled s (job₀ .answer) n i job
 
-enum-known-first : tie.Need-enum-known-first
-enum-known-first c = search needs
+abbrev μ-loop : tie.MeasureT-loop
+μ-loop s job₀ n i₀ job i = n - i
 
-enum-told : tie.Need-enum-told
+checked-requires : tie.Need-checked-requires Inv-loop μ-loop
+checked-requires c κs = search needs
+
+enum-known-answer : tie.Need-enum-known-answer Inv-loop μ-loop
+enum-known-answer c = search needs
+
+enum-told : tie.Need-enum-told Inv-loop μ-loop
 enum-told c = search needs
 
-refused-requires : tie.Need-refused-requires
-refused-requires c κs = search needs
+returns : tie.Need-returns Inv-loop μ-loop
+returns c = let h = c .before .before in refused (now (h .before .before .args .s)) (h .checked .ensures) (c .enum-told .given .1)
 
-returns : tie.Need-returns
-returns c =
-    let t = c .before .enum-told .given in
-    let h = c .before .before .before in
-    c .refused .ensures ∙ head-refused (now (h .before .before .args .s)) (h .head .result) (t .0 .0) (t .0 .1 .0) (h .head .ensures) (t .1)
+loop-holds : tie.Need-loop-holds Inv-loop μ-loop
+loop-holds c = none (c .before .before .before .checked .ensures) (c .before .answer .given .1)
 
--- the kind and n that the first seven bytes say
-ring : (c : tie.After-first) → headOf (now (c .before .before .before .before .args .s)) ≡ Ring (c .first .given .0 .0) (c .first .given .0 .1 .0)
-ring c = sym (c .before .before .head .ensures) ∙ c .first .given .1
+cast-k : tie.Need-cast-k Inv-loop μ-loop
+cast-k c = search needs
 
-filled-requires : tie.Need-filled-requires
-filled-requires c κs =
-    let f = c .before in
-    let h = headed (now (f .before .before .before .before .args .s)) (f .first .given .0 .0) (f .first .given .0 .1 .0) (ring f) in
-    omega arith
+stored-requires : tie.Need-stored-requires Inv-loop μ-loop
+stored-requires c κs = search needs
 
-boards-held-requires : tie.Need-boards-held-requires
-boards-held-requires c κs =
-    let j = c .before .before .before .before .before .before .before in
-    let f = j .before .before in
-    let s = now (f .before .before .before .before .args .s) in
-    let h = headed s (f .first .given .0 .0) (f .first .given .0 .1 .0) (ring f) in
-    let l = lengths s (f .first .given .0 .0) (f .first .given .0 .1 .0) (ring f) (j .filled .result) (j .filled .ensures) in
-    omega arith
+mul-job : tie.Need-mul-job Inv-loop μ-loop
+mul-job c = search needs
 
--- what the boards' check answers is the reader's answer
-answer : (c : tie.After-boards-held) → c .boards-held .result ≡ checkOf (now (c .before .before .before .before .before .before .before .before .before .before .before .before .before .before .args .s))
-answer c =
-    let j = c .before .before .before .before .before .before .before .before in
-    let f = j .before .before in
-    c .boards-held .ensures
-    ∙ check-is (now (f .before .before .before .before .args .s)) (f .first .given .0 .0) (f .first .given .0 .1 .0) (ring f) (j .filled .result) (j .filled .ensures)
+element-write-job : tie.Need-element-write-job Inv-loop μ-loop
+element-write-job c = search needs
 
-enum-told-2 : tie.Need-enum-told-2
-enum-told-2 c = search needs
+mul-surplus : tie.Need-mul-surplus Inv-loop μ-loop
+mul-surplus c = search needs
 
-enum-told-3 : tie.Need-enum-told-3
-enum-told-3 c = search needs
+element-set-from-surplus : tie.Need-element-set-from-surplus Inv-loop μ-loop
+element-set-from-surplus c = search needs
 
-refused-requires-2 : tie.Need-refused-requires-2
-refused-requires-2 c κs = search needs
+mul-job-2 : tie.Need-mul-job-2 Inv-loop μ-loop
+mul-job-2 c = search needs
 
-returns-2 : tie.Need-returns-2
+element-write-job-2 : tie.Need-element-write-job-2 Inv-loop μ-loop
+element-write-job-2 c = search needs
+
+add-i : tie.Need-add-i Inv-loop μ-loop
+add-i c = search needs
+
+loop-less : tie.Need-loop-less Inv-loop μ-loop
+loop-less c = search needs
+
+loop-again : tie.Need-loop-again Inv-loop μ-loop
+loop-again c =
+    let b = c .before in
+    let l = b .before .before in
+    let s = l .before .before .before .before .before .before .args .s .now in
+    let e = b .stored .ensures ∙ sym (numbers-are s (l .loop .i) (omega arith)) in
+    more (l .loop .inv) (b .before .loop-test .taken) e (record { sfits = c .struct-told .given .1 .0 .1 })
+
+returns-2 : tie.Need-returns-2 Inv-loop μ-loop
 returns-2 c =
-    let t = c .before .enum-told3 .given in
-    let b = c .before .before .before in
-    let f = b .before .before .before .before .before .before .before .before .before .before in
-    c .refused2 .ensures ∙ refused (now (f .before .before .before .before .args .s)) (b .boards-held .result) (t .0 .0) (t .0 .1 .0) (answer b) (t .1)
-
-returns-3 : tie.Need-returns-3
-returns-3 c =
-    let t = c .enum-told2 .given in
-    let b = c .before .before in
-    let j = b .before .before .before .before .before .before .before .before in
-    let f = j .before .before in
-    job-is (now (f .before .before .before .before .args .s)) (f .first .given .0 .0) (f .first .given .0 .1 .0) (ring f) (j .filled .result) (j .filled .ensures)
-    (t .0 .0) (t .0 .1 .0) (sym (answer b) ∙ t .1)
+    let l = c .before in
+    let f = l .before .before in
+    all (f .before .before .checked .ensures) (f .answer .given .1) (l .loop .inv) (c .loop-test .left)
 
 pub read-spec : {M : Type 1} → statement M
 read-spec =
     tie.close
     (tie.spec
-    head-requires
-    enum-known-first
+    Inv-loop
+    μ-loop
+    checked-requires
+    enum-known-answer
     enum-told
-    refused-requires
     returns
-    filled-requires
-    boards-held-requires
-    enum-told-2
-    enum-told-3
-    refused-requires-2
-    returns-2
-    returns-3)
+    loop-holds
+    cast-k
+    stored-requires
+    mul-job
+    element-write-job
+    mul-surplus
+    element-set-from-surplus
+    mul-job-2
+    element-write-job-2
+    add-i
+    loop-less
+    loop-again
+    returns-2)
