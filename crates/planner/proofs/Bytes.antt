@@ -14,7 +14,7 @@ use Rattle.ring.proofs.Joined.{joined-same, joined-add}
 use Rattle.hop.proofs.Pieces.{joined-long}
 use Rattle.ring.specs.Bytes.{sendBytes, recordsOf, planHead}
 use Rattle.planner.specs.PlanBytes.{planBytes}
-use Rattle.planner.specs.EvenRuns.{linkBytes}
+use Rattle.planner.specs.Links.{linkBytes}
 
 pub send-long : (s : Send) → length (sendBytes s) ≡ 6
 unfolding sendBytes

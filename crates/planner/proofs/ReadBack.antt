@@ -13,6 +13,7 @@ use Rattle.ring.specs.Plan.{offset, plan, finishOf, moves}
 use Rattle.ring.specs.Bytes.{wordAt, wordBytes, sendBytes, recordsOf, planHead}
 use Rattle.planner.specs.PlanBytes.{planBytes, finishIn, movesIn, planIn, recordPlace, recordAt, recordsIn}
 use Rattle.planner.proofs.Bytes.{send-long, head-long}
+use Rattle.planner.proofs.Parts.{word-same}
 use Rattle.ring.proofs.Moves.{as-many}
 use Rattle.ring.proofs.Joined.{joined-same, first-of}
 
@@ -50,8 +51,7 @@ behind xs ys n at e =
     λ t. record {
       link = by (n + at) at refl t;
       direction = by (n + at + 1) (at + 1) (omega arith) t;
-      start = (by (n + at + 2) (at + 2) (omega arith) t * 256 + by (n + at + 2 + 1) (at + 2 + 1) (omega arith) t) * 65536
-          + (by (n + at + 2 + 2) (at + 2 + 2) (omega arith) t * 256 + by (n + at + 2 + 2 + 1) (at + 2 + 2 + 1) (omega arith) t);
+      start = word-same (xs ++ ys) ys (n + at + 2) (at + 2) (λ d l. by (n + at + 2 + d) (at + 2 + d) (omega arith)) t;
     }
   where
     by : (a b : ℕ) → a ≡ n + b → getD (xs ++ ys) a 0 ≡ getD ys b 0

@@ -1,67 +1,88 @@
--- Levels, each from the one before it, how large they get, and the least and the greatest of them. Assumes nothing.
-use mathlib.Core.Path.{_≡_, refl, sym, ap, _∙_}
-use Prim.Native.Nat.{ℕ, zero, suc, _+_, _*_, _-_, _≤_, _<_, min, max}
+-- The levels of a ring, each raised from the one before by the surplus of the board between, from the total of the loads on. Assumes nothing.
+use mathlib.Core.Path.{_≡_, sym, ap, _∙_}
+use mathlib.Core.List.{List}
+use Prim.Native.Nat.{ℕ, zero, suc, _+_, _*_, _-_, _≤_, _<_, _^_}
 use native.Mathlib.Nat.{le-refl}
 use native.Mathlib.Omega.{arith}
-use native.Mathlib.Numerals.{add-one}
-use Rattle.ring.specs.Numbers.{sum, least, greatest}
-use Rattle.ring.specs.Boards.{Ring, mostLoad}
-use Rattle.ring.specs.Plan.{level, low, high}
-use Rattle.ring.proofs.Sums.{sum-mono, sum-most, least-le, le-greatest}
+use lib.IntN.{ℤ, pos, natAbs, _+ℤ_, +ℤ-assoc}
+use lib.Signed.{mag}
+use mir.Syntax.{w16}
+use mir.Val.{toZ, ofZ}
+use Rattle.ring.specs.Numbers.{sum, sumℤ}
+use Rattle.ring.specs.Lists.{each, eachℤ}
+use Rattle.ring.specs.Boards.{Ring, ringIn, prev, mostLoad}
+use Rattle.ring.specs.Plan.{level, surplusSize}
+use Rattle.ring.proofs.Sums.{sum-mono}
+use Rattle.ring.proofs.Level.{level-step}
+use Rattle.ring.proofs.Bounds.{items-most}
+use Rattle.planner.specs.Outline.{Lent, Levels, before, stepBy}
+use Rattle.planner.proofs.SumRisen.{gained, may-lead, led}
 
--- the least, and the greatest, of the first and of the others
-module _ (g : ℕ → ℕ) where
-  least-first : (k : ℕ) → least g (suc k) ≡ min (g 0) (least (λ i. g (suc i)) k)
-  unfolding least
-  least-first zero = refl
-  least-first (suc k) = omega (arith, least-first k)
+-- from a level to the next, by the surplus of the board between
+module _ {n total : ℕ} {surpluses : List ℤ} (l : Levels n total surpluses) (i : ℕ) (h : i < n) where
+  pub step : pos (before total surpluses (suc i)) ≡ pos (before total surpluses i) +ℤ eachℤ surpluses i
+  unfolding sumℤ
+  step =
+      l .whole (suc i) h
+      ∙ sym (+ℤ-assoc (pos total) (sumℤ (eachℤ surpluses) i) (eachℤ surpluses i))
+      ∙ ap (λ (z : ℤ). z +ℤ eachℤ surpluses i) (sym (l .whole i (omega arith)))
 
-  greatest-first : (k : ℕ) → greatest g (suc k) ≡ max (g 0) (greatest (λ i. g (suc i)) k)
-  unfolding greatest
-  greatest-first zero = refl
-  greatest-first (suc k) = omega (arith, greatest-first k)
+  -- as `risen` asks it and says it, of a surplus that was read from 16 bits
+  module _ {level : ℕ} (is : level ≡ before total surpluses i) (given : mag (eachℤ surpluses i) < 2 ^ 15) where
+    leads : pos (before total surpluses (suc i)) ≡ pos level +ℤ eachℤ surpluses i
+    leads = step ∙ ap (λ (x : ℕ). pos x +ℤ eachℤ surpluses i) (sym is)
 
-module _ (r : Ring) where
-  -- the level of the link before board i; all items at board 0
-  abbrev pub before : ℕ → ℕ
-  before i = sum (r .load) i + (sum (r .after) (r .n) - sum (r .after) i)
+    pub may-rise : (level ≤ 256 * mostLoad) × (pos (natAbs (pos level +ℤ toZ w16 (ofZ w16 (eachℤ surpluses i)))) ≡ pos level +ℤ toZ w16 (ofZ w16 (eachℤ surpluses i)))
+    may-rise = (omega (arith, l .few i (omega arith)), may-lead level (before total surpluses (suc i)) (eachℤ surpluses i) leads given)
 
-  pub before-first : sum (r .load) (r .n) ≡ sum (r .after) (r .n) → sum (r .load) (r .n) ≡ before 0
-  unfolding sum
-  before-first balanced = omega arith
+    pub rises : natAbs (pos level +ℤ toZ w16 (ofZ w16 (eachℤ surpluses i))) ≡ before total surpluses (suc i)
+    rises = led level (before total surpluses (suc i)) (eachℤ surpluses i) leads given
 
-  pub before-next : (i : ℕ) → before (i + 1) ≡ level r i
+-- before board 0 it is the total
+pub before-first : (total : ℕ) (surpluses : List ℤ) → before total surpluses 0 ≡ total
+unfolding sumℤ
+before-first total surpluses = omega arith
+
+-- the level of the link before board k, of a ring's own loads and loads after
+abbrev under : Ring → ℕ → ℕ
+under r k = sum (r .load) k + (sum (r .after) (r .n) - sum (r .after) k)
+
+-- from the total of an accepted job's loads on, they are the levels of its ring
+module _ {kind n : ℕ} {loads : List ℕ} {surpluses : List ℤ} {costs : List ℕ} (lent : Lent kind n loads surpluses costs) where
+  raised : (k : ℕ) → k ≤ n → pos (sum (each loads) n) +ℤ sumℤ (eachℤ surpluses) k ≡ pos (under (ringIn kind n loads surpluses costs) k)
+  unfolding sum sumℤ
+  raised zero h = ap pos (omega (arith, lent .accepted .balanced))
+  raised (suc k) h =
+      let r = ringIn kind n loads surpluses costs in
+      let s = eachℤ surpluses k in
+      let e : under r (suc k) + r .after k ≡ under r k + r .load k = omega (arith, sum-mono (r .after) (suc k) n h) in
+      sym (+ℤ-assoc (pos (sum (each loads) n)) (sumℤ (eachℤ surpluses) k) s)
+      ∙ ap (λ (z : ℤ). z +ℤ s) (raised k (omega arith))
+      ∙ sym (gained (under r (suc k)) (under r k) (r .load k) (r .after k) s e (lent .after-is k h))
+
+  pub levels : Levels n (sum (each loads) n) surpluses
+  levels =
+      record {
+        long = lent .surpluses-long;
+        whole = λ k h. ap (λ (z : ℤ). pos (natAbs z)) (raised k h) ∙ sym (raised k h);
+        few = λ k h.
+            let r = ringIn kind n loads surpluses costs in
+            omega (arith, ap natAbs (raised k h), sum-mono (r .load) k n h, lent .accepted .balanced, items-most r (lent .accepted));
+      }
+
+  pub level-is : (i : ℕ) → i < n → before (sum (each loads) n) surpluses (suc i) ≡ level (ringIn kind n loads surpluses costs) i
   unfolding level
-  before-next i = rw add-one
+  level-is i h = ap natAbs (raised (suc i) h)
 
-  -- what board i asks of the level before it, and what it makes of it
-  pub record Turn (i x : ℕ) : Type 0 where
-    pub few : x + r .load i ≤ 256 * mostLoad
-    pub enough : r .after i ≤ x + r .load i
-    pub is : x + r .load i - r .after i ≡ level r i
+  before-last : before (sum (each loads) n) surpluses n ≡ sum (each loads) n
+  before-last = omega (arith, ap natAbs (raised n (le-refl n)))
 
-  pub turn : r .n ≤ 128 → ((i : ℕ) → i < r .n → (r .load i ≤ mostLoad) × (r .after i ≤ mostLoad)) → (i : ℕ) → i < r .n → Turn i (before i)
-  unfolding sum level
-  turn boards small i h =
-      let a = sum-mono (r .after) (suc i) (r .n) h in
-      let b = sum-most (r .after) mostLoad (r .n) (λ k l. small k l .1) in
-      let c = sum-most (r .load) mostLoad (suc i) (λ k l. small k (omega arith) .0) in
-      record { few = omega arith; enough = omega arith; is = omega arith }
+  pub before-is : (i : ℕ) → i < n → before (sum (each loads) n) surpluses i ≡ level (ringIn kind n loads surpluses costs) (prev n i)
+  before-is zero h =
+      let e : suc (n - 1) ≡ n = omega arith in
+      before-first (sum (each loads) n) surpluses ∙ sym before-last ∙ ap (before (sum (each loads) n) surpluses) (sym e) ∙ level-is (n - 1) (omega arith)
+  before-is (suc i) h = level-is i (omega arith)
 
-  -- from the last link on to the last link again: the least and the greatest of all
-  module _ (some : 1 ≤ r .n) (balanced : sum (r .load) (r .n) ≡ sum (r .after) (r .n)) where
-    last : before 0 ≡ level r (r .n - 1)
-    unfolding level sum
-    last = let e : suc (r .n - 1) ≡ r .n = omega arith in omega (arith, ap (sum (r .load)) e, ap (sum (r .after)) e)
-
-    pub least-is : least before (r .n) ≡ low r
-    unfolding low level
-    least-is =
-        let e : suc (r .n - 1) ≡ r .n = omega arith in
-        ap (least before) (sym e) ∙ least-first before (r .n - 1) ∙ omega (arith, last, least-le (level r) (r .n - 1) (r .n - 1) (le-refl (r .n - 1)))
-
-    pub greatest-is : greatest before (r .n) ≡ high r
-    unfolding high level
-    greatest-is =
-        let e : suc (r .n - 1) ≡ r .n = omega arith in
-        ap (greatest before) (sym e) ∙ greatest-first before (r .n - 1) ∙ omega (arith, last, le-greatest (level r) (r .n - 1) (r .n - 1) (le-refl (r .n - 1)))
+  -- from a level to the next it is as far as the board's surplus is large
+  pub step-is : (i : ℕ) → i < n → stepBy (sum (each loads) n) surpluses i ≡ surplusSize (ringIn kind n loads surpluses costs) i
+  step-is i h = omega (arith, before-is i h, level-is i h, level-step (ringIn kind n loads surpluses costs) (lent .accepted) i h)

@@ -3,7 +3,4 @@ pub mod Answer
 pub mod Traffic
 pub mod Turn
 pub mod Outline
-pub mod Runs
-pub mod RunSteps
-pub mod EvenRuns
 pub mod Links

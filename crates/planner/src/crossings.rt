@@ -1,14 +1,13 @@
 // What each board of a job sends and receives.
 ghost use mathlib.Core.Path.{_≡_};
-ghost use Prim.Native.Nat.{ℕ, _+_, _*_, _-_, _<_, _≤_};
-ghost use lib.ListN.{length};
+ghost use Prim.Native.Nat.{_*_, _-_, _≤_};
 ghost use Rattle.ring.specs.Boards.{ringIn, mostLoad};
 ghost use Rattle.hop.specs.Read.{jobOf};
-ghost use Rattle.planner.specs.Outline.{Lent, carriesIn, crossings};
+ghost use Rattle.planner.specs.Outline.{Lent, Levels, crossings};
 ghost use Rattle.planner.specs.Traffic.{trafficIn, trafficOf};
 use crate::Traffic;
-use crate::runs::link_before;
 use crate::sums::outline_of;
+use crate::sums::risen;
 use hop::Check;
 use hop::MOST_BOARDS;
 
@@ -20,17 +19,19 @@ fn beyond(a: u32, b: u32) -> u32
 }
 
 // The traffic of n boards: board i sends forward on link i and back on the link before it, and receives the other way about.
-fn by_board(n: usize, levels: &[u32], offset: u32) -> Traffic
-    requires { ⌜ (n ≤ 128) × (n ≤ length (now levels)) × ((i : ℕ) → i < n → carriesIn (now levels) offset i ≤ 128 * mostLoad) ⌝ }
-    ensures { λ r. ⌜ r ≡ crossings n (now (levels .entry)) offset n ⌝ }
+fn by_board(n: usize, surpluses: &[i16], total: u32, offset: u32) -> Traffic
+    requires { ⌜ (n ≤ 128) × Levels n total (now surpluses) × (offset ≤ 256 * mostLoad) ⌝ }
+    ensures { λ r. ⌜ r ≡ crossings total (now (surpluses .entry)) offset n ⌝ }
 {
     let mut sends = [0u32; MOST_BOARDS];
     let mut receives = [0u32; MOST_BOARDS];
+    let mut level = total;
     for i in 0..n {
-        let here = levels[i];
-        let before = levels[link_before(i, n)];
-        sends[i] = beyond(here, offset) + beyond(offset, before);
-        receives[i] = beyond(before, offset) + beyond(offset, here);
+        let last = level;
+        let surplus = surpluses[i];
+        level = risen(last, surplus);
+        sends[i] = beyond(level, offset) + beyond(offset, last);
+        receives[i] = beyond(last, offset) + beyond(offset, level);
     }
     Traffic { sends, receives }
 }
@@ -46,9 +47,8 @@ fn traffic_ring<'a>(
     requires { ⌜ Lent kind n (now loads) (now surpluses) (now costs) ⌝ }
     ensures { λ r. ⌜ r ≡ trafficIn (ringIn kind n (now (loads .entry)) (now (surpluses .entry)) (now (costs .entry))) ⌝ }
 {
-    let mut levels = [0u32; MOST_BOARDS];
-    let o = outline_of(kind, n, loads, surpluses, costs, &mut levels);
-    by_board(n, &levels, o.offset)
+    let o = outline_of(kind, n, loads, surpluses, costs);
+    by_board(n, surpluses, o.total, o.offset)
 }
 
 // The sends and the receipts of each board in the plan of a job. A refused job has none.

@@ -10,12 +10,12 @@ ghost use Rattle.planner.specs.Outline.{Lent};
 mod crossings;
 mod links;
 mod records;
-mod runs;
 mod sums;
 mod turning;
 
 pub use crossings::traffic_of;
 use hop::Check;
+use hop::Job;
 use hop::MOST_BOARDS;
 use ring::Items;
 use ring::Ticks;
@@ -87,8 +87,7 @@ fn plan_ring<'a>(
     ensures { λ r. ⌜ r ≡ answerFor (ringIn kind n (now (loads .entry)) (now (surpluses .entry)) (now (costs .entry))) (length (now (buf .entry))) ⌝ }
     ensures { λ r. ⌜ now (buf .exit) ≡ memoryFor (ringIn kind n (now (loads .entry)) (now (surpluses .entry)) (now (costs .entry))) r (now (buf .entry)) ⌝ }
 {
-    let mut levels = [0u32; MOST_BOARDS];
-    let o = sums::outline_of(kind, n as usize, loads, surpluses, costs, &mut levels);
+    let o = sums::outline_of(kind, n as usize, loads, surpluses, costs);
     let time = o.finish;
     let items = o.moves;
     let answer = weighed(time, items, o.tight, buf.len());
@@ -96,16 +95,7 @@ fn plan_ring<'a>(
         return answer;
     };
     records::put_head(buf, kind, n, finish, moves);
-    links::put_links(
-        buf,
-        kind,
-        n as usize,
-        &levels,
-        o.offset,
-        o.rounds.0,
-        loads,
-        costs,
-    );
+    links::put_links(buf, kind, n as usize, loads, surpluses, costs, o);
     answer
 }
 
@@ -121,8 +111,7 @@ fn weigh_ring<'a>(
     requires { ⌜ Lent kind n (now loads) (now surpluses) (now costs) ⌝ }
     ensures { λ r. ⌜ r ≡ answerFor (ringIn kind n (now (loads .entry)) (now (surpluses .entry)) (now (costs .entry))) room ⌝ }
 {
-    let mut levels = [0u32; MOST_BOARDS];
-    let o = sums::outline_of(kind, n as usize, loads, surpluses, costs, &mut levels);
+    let o = sums::outline_of(kind, n as usize, loads, surpluses, costs);
     let time = o.finish;
     let items = o.moves;
     weighed(time, items, o.tight, room)
@@ -140,15 +129,29 @@ pub fn weigh(s: &[u8], room: usize) -> Planned
     weigh_ring(kind, n, &job.loads, &job.surpluses, &job.costs, room)
 }
 
-// The plan of a job into a lent buffer: its numbers, or the first refusal of 1 to 13, which leaves the buffer as it was.
+// The plan of a job into a lent buffer: its numbers, or the first refusal of 1 to 13, which leaves the buffer as it was. The job is put together in
+// place, since one that `hop::read` returns by value stands on the stack twice.
 pub fn plan(s: &[u8], buf: &mut [u8]) -> Planned
     ensures { λ r. ⌜ r ≡ planAnswer (jobOf (now (s .entry))) (length (now (buf .entry))) ⌝ }
     ensures { λ _. ⌜ now (buf .exit) ≡ planMemory (jobOf (now (s .entry))) (now (buf .entry)) ⌝ }
 {
-    let job = hop::read(s);
-    let check = job.answer;
-    let Check::Ring { kind, n } = check else {
-        return stopped(check);
+    let answer = hop::checked(s);
+    let Check::Ring { kind, n } = answer else {
+        return stopped(answer);
     };
+    let mut job = Job {
+        answer,
+        loads: [0; MOST_BOARDS],
+        surpluses: [0; MOST_BOARDS],
+        costs: [0; MOST_BOARDS],
+    };
+    for i in 0..n {
+        let k = i as usize;
+        let board = hop::numbers_of(s, i);
+        let surplus = board.surplus;
+        job.loads[k] = board.load;
+        job.surpluses[k] = surplus;
+        job.costs[k] = board.cost;
+    }
     plan_ring(kind, n, &job.loads, &job.surpluses, &job.costs, buf)
 }

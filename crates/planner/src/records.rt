@@ -4,7 +4,7 @@ ghost use Prim.Native.Nat.{_+_, _*_, _<_, _≤_};
 ghost use mathlib.Core.List.{_++_};
 ghost use lib.ListN.{length, drop};
 ghost use Rattle.ring.specs.Bytes.{sendBytes, planHead};
-ghost use Rattle.planner.specs.EvenRuns.{linkBytes, edgeOf, Even, runsBytes};
+ghost use Rattle.planner.specs.Links.{linkBytes};
 
 // The bytes before the records.
 fn head(kind: u8, n: u8, finish: u32, moves: u32) -> [u8; 15]
@@ -41,7 +41,7 @@ pub(crate) fn put_head(buf: &mut [u8], kind: u8, n: u8, finish: u32, moves: u32)
 }
 
 // One record at the front of a part. It holds the start's low 32 bits, which are all of it where the finish is within 32 bits.
-fn put_record(part: &mut [u8], link: u8, direction: u8, start: u64)
+pub(crate) fn put_record(part: &mut [u8], link: u8, direction: u8, start: u64)
     requires { ⌜ 6 ≤ length (now part) ⌝ }
     ensures { λ _. ⌜ now (part .exit) ≡ sendBytes (record { link = link; direction = direction; start = start }) ++ drop 6 (now (part .entry)) ⌝ }
 {
@@ -67,47 +67,5 @@ pub(crate) fn put_run(part: &mut [u8], link: u8, direction: u8, count: u32, firs
         let at = 6 * x;
         put_record(&mut part[at..], link, direction, start);
         start += wide;
-    }
-}
-
-// Where run e of m begins, and the run before it ends: the last ends with the link's sends.
-fn edge(from: &[u32], m: usize, count: u32, e: usize) -> u32
-    requires { ⌜ m ≤ length (now from) ⌝ }
-    ensures { λ r. ⌜ r ≡ edgeOf (now (from .entry)) m count e ⌝ }
-{
-    if e < m {
-        return from[e];
-    }
-    count
-}
-
-// The records of a link whose sends come in m even runs, at the front of a part.
-pub(crate) fn put_runs(
-    part: &mut [u8],
-    link: u8,
-    direction: u8,
-    count: u32,
-    from: &[u32],
-    first: &[u64],
-    step: &[u16],
-    m: usize,
-)
-    requires { ⌜ 6 * count ≤ length (now part) ⌝ }
-    requires { ⌜ Even (now from) (now first) (now step) m count ⌝ }
-    ensures { λ _. ⌜ now (part .exit) ≡ runsBytes (now (from .entry)) (now (first .entry)) (now (step .entry)) m count link direction m ++ drop (6 * count) (now (part .entry)) ⌝ }
-{
-    let mut begin: u32 = 0;
-    for e in 0..m {
-        let end = edge(from, m, count, e + 1);
-        let at = 6 * (begin as usize);
-        put_run(
-            &mut part[at..],
-            link,
-            direction,
-            end - begin,
-            first[e],
-            step[e],
-        );
-        begin = end;
     }
 }

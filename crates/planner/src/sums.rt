@@ -1,19 +1,20 @@
-// The numbers of a plan, from the numbers of an accepted ring.
+// The numbers of a plan, from the numbers of an accepted ring. No list of levels is kept: each walk raises the level from link to link again.
 ghost use mathlib.Core.Path.{_≡_};
 ghost use Prim.Native.Nat.{ℕ, _+_, _*_, _-_, _/_, _<_, _≤_, max, min};
 ghost use lib.Dec.{eqb, ltb};
+ghost use lib.IntN.{pos, natAbs, _+ℤ_};
 ghost use lib.ListN.{length};
 ghost use Rattle.ring.specs.Numbers.{pick, sum, greatest};
-ghost use Rattle.ring.specs.Lists.{each, fill};
-ghost use Rattle.ring.specs.Boards.{ringIn, Within, mostLoad};
-ghost use Rattle.ring.specs.Plan.{level, surplusSize};
-ghost use Rattle.planner.specs.Outline.{BoardHeld, Lent, boardsIn, between, carriesIn, spanOf, tallyOf, outlineOf};
+ghost use Rattle.ring.specs.Lists.{each};
+ghost use Rattle.ring.specs.Boards.{ringIn, mostLoad};
+ghost use Rattle.planner.specs.Outline.{Lent, Levels, between, carriesBy, stepBy, roundsBy, spanOf, tallyOf, outlineOf};
 use ring::Items;
 use ring::Ticks;
 
-// The numbers of a plan, beside its links' levels. Link i carries the difference of its level and the offset: forward where the level is
-// more, back where it is less.
+// The numbers of a plan. `total` is the level of the last link, from which the others are raised by the surpluses; link i carries the difference
+// of its level and the offset, forward where the level is more, back where it is less. `rounds` is T in kind 3.
 pub(crate) struct Outline {
+    pub(crate) total: u32,
     pub(crate) offset: u32,
     pub(crate) rounds: Items,
     pub(crate) moves: Items,
@@ -49,7 +50,7 @@ fn greater(a: u32, b: u32) -> u32
 }
 
 // The later of two.
-fn later(a: Ticks, b: Ticks) -> Ticks
+pub(crate) fn later(a: Ticks, b: Ticks) -> Ticks
     ensures { λ r. ⌜ r .0 ≡ max (a .0) (b .0) ⌝ }
 {
     if a.0 < b.0 { b } else { a }
@@ -62,22 +63,13 @@ pub(crate) fn apart(a: u32, b: u32) -> u32
     if a < b { b - a } else { a - b }
 }
 
-// The load that board i is to end with: the planner's only place that computes with signed numbers.
-fn after(loads: &[u16], surpluses: &[i16], i: usize) -> u16
-    requires { ⌜ BoardHeld (now loads) (now surpluses) i ⌝ }
-    ensures { λ r. ⌜ r ≡ boardsIn 0 (now (loads .entry)) (now (surpluses .entry)) .after i ⌝ }
+// The level of a link, from that of the link before and the surplus of the board between: the planner's only place that computes with signed
+// numbers.
+pub(crate) fn risen(level: u32, surplus: i16) -> u32
+    requires { ⌜ (level ≤ 256 * mostLoad) × (pos (natAbs (pos level +ℤ surplus)) ≡ pos level +ℤ surplus) ⌝ }
+    ensures { λ r. ⌜ r ≡ natAbs (pos level +ℤ surplus) ⌝ }
 {
-    let load = loads[i];
-    let surplus = surpluses[i];
-    ((load as i32) - (surplus as i32)) as u16
-}
-
-// |surplus| of board i.
-fn surplus_size(loads: &[u16], surpluses: &[i16], i: usize) -> u32
-    requires { ⌜ BoardHeld (now loads) (now surpluses) i ⌝ }
-    ensures { λ r. ⌜ r ≡ surplusSize (boardsIn 0 (now (loads .entry)) (now (surpluses .entry))) i ⌝ }
-{
-    apart(loads[i] as u32, after(loads, surpluses, i) as u32)
+    ((level as i32) + (surplus as i32)) as u32
 }
 
 // The loads of n boards together.
@@ -92,36 +84,49 @@ fn total(n: usize, loads: &[u16]) -> u32
     sum
 }
 
-// The level of each of n links, in a lent list: the loads up to it, and what the boards past it are to end with; answers the least and the
-// greatest. It begins as that of the link before board 0, which is the last.
-fn put_levels(n: usize, loads: &[u16], surpluses: &[i16], levels: &mut [u32]) -> Span
-    requires { ⌜ (Within 2 128 n) × (n ≤ length (now levels)) × ((i : ℕ) → i < n → BoardHeld (now loads) (now surpluses) i) ⌝ }
-    requires { ⌜ sum (boardsIn n (now loads) (now surpluses) .load) n ≡ sum (boardsIn n (now loads) (now surpluses) .after) n ⌝ }
-    ensures { λ r. ⌜ r ≡ spanOf (boardsIn n (now (loads .entry)) (now (surpluses .entry))) ⌝ }
-    ensures { λ _. ⌜ now (levels .exit) ≡ fill (level (boardsIn n (now (loads .entry)) (now (surpluses .entry)))) n (now (levels .entry)) ⌝ }
+// The least and the greatest level, in one walk over the surpluses. It begins with the level of the link before board 0, the last link's.
+fn span_of(n: usize, surpluses: &[i16], total: u32) -> Span
+    requires { ⌜ Levels n total (now surpluses) ⌝ }
+    ensures { λ r. ⌜ r ≡ spanOf total (now (surpluses .entry)) n ⌝ }
 {
-    let mut level = total(n, loads);
-    let mut low = level;
-    let mut high = level;
+    let mut level = total;
+    let mut low = total;
+    let mut high = total;
     for i in 0..n {
-        level = level + (loads[i] as u32) - (after(loads, surpluses, i) as u32);
-        levels[i] = level;
+        let surplus = surpluses[i];
+        level = risen(level, surplus);
         low = lesser(low, level);
         high = greater(high, level);
     }
     Span { low, high }
 }
 
-// The largest |surplus| of n boards.
-fn largest(n: usize, loads: &[u16], surpluses: &[i16]) -> u32
-    requires { ⌜ (1 ≤ n) × ((i : ℕ) → i < n → BoardHeld (now loads) (now surpluses) i) ⌝ }
-    ensures { λ r. ⌜ r ≡ greatest (surplusSize (boardsIn n (now (loads .entry)) (now (surpluses .entry)))) (n - 1) ⌝ }
+// The largest |surplus| of n boards, as the largest step from a level to the next.
+fn largest(n: usize, surpluses: &[i16], total: u32) -> u32
+    requires { ⌜ (1 ≤ n) × Levels n total (now surpluses) ⌝ }
+    ensures { λ r. ⌜ r ≡ greatest (stepBy total (now (surpluses .entry))) (n - 1) ⌝ }
 {
+    let mut level = total;
     let mut most: u32 = 0;
     for i in 0..n {
-        most = greater(most, surplus_size(loads, surpluses, i));
+        let last = level;
+        let surplus = surpluses[i];
+        level = risen(last, surplus);
+        most = greater(most, apart(last, level));
     }
     most
+}
+
+// T of a kind 3 ring whose levels spread so far; 0 for another kind, which asks for none.
+fn rounds(kind: u8, n: usize, surpluses: &[i16], total: u32, spread: u32) -> u32
+    requires { ⌜ (1 ≤ n) × Levels n total (now surpluses) × (spread ≤ 128 * mostLoad) ⌝ }
+    ensures { λ r. ⌜ r ≡ roundsBy total (now (surpluses .entry)) kind n spread ⌝ }
+{
+    if kind == 3 {
+        greater(largest(n, surpluses, total), (spread + 1) / 2)
+    } else {
+        0
+    }
 }
 
 // Link i where it carries more than the most so far, else the tight link so far.
@@ -133,16 +138,20 @@ fn heavier(tight: u8, most: u32, i: usize, items: u32) -> u8
 }
 
 // What n links carry, each the difference of its level and the offset.
-fn tally_of(n: usize, levels: &[u32], offset: u32, costs: &[u16]) -> Tally
-    requires { ⌜ (1 ≤ n) × (n ≤ 128) × (n ≤ length (now levels)) × (n ≤ length (now costs)) × ((i : ℕ) → i < n → carriesIn (now levels) offset i ≤ 128 * mostLoad) ⌝ }
-    ensures { λ r. ⌜ r ≡ tallyOf n (now (levels .entry)) offset (now (costs .entry)) ⌝ }
+fn tally_of(n: usize, surpluses: &[i16], costs: &[u16], total: u32, offset: u32) -> Tally
+    requires { ⌜ (1 ≤ n) × (n ≤ 128) × (n ≤ length (now costs)) × Levels n total (now surpluses) ⌝ }
+    requires { ⌜ ((i : ℕ) → i < n → carriesBy total (now surpluses) offset i ≤ 128 * mostLoad) ⌝ }
+    ensures { λ r. ⌜ r ≡ tallyOf total (now (surpluses .entry)) n offset (now (costs .entry)) ⌝ }
 {
+    let mut level = total;
     let mut moves: u32 = 0;
     let mut tight: u8 = 0;
     let mut most: u32 = 0;
     let mut slowest = Ticks(0);
     for i in 0..n {
-        let items = apart(levels[i], offset);
+        let surplus = surpluses[i];
+        level = risen(level, surplus);
+        let items = apart(level, offset);
         moves += items;
         tight = heavier(tight, most, i, items);
         most = greater(most, items);
@@ -178,26 +187,26 @@ fn finish(kind: u8, cost: u16, rounds: Items, slowest: Ticks) -> Ticks
     }
 }
 
-// The numbers of the plan of a ring, and its links' levels in a lent list.
+// The numbers of the plan of a ring.
 pub(crate) fn outline_of(
     kind: u8,
     n: usize,
     loads: &[u16],
     surpluses: &[i16],
     costs: &[u16],
-    levels: &mut [u32],
 ) -> Outline
-    requires { ⌜ Lent kind n (now loads) (now surpluses) (now costs) × (n ≤ length (now levels)) ⌝ }
+    requires { ⌜ Lent kind n (now loads) (now surpluses) (now costs) ⌝ }
     ensures { λ r. ⌜ r ≡ outlineOf (ringIn kind n (now (loads .entry)) (now (surpluses .entry)) (now (costs .entry))) ⌝ }
-    ensures { λ _. ⌜ now (levels .exit) ≡ fill (level (ringIn kind n (now (loads .entry)) (now (surpluses .entry)) (now (costs .entry)))) n (now (levels .entry)) ⌝ }
 {
-    let span = put_levels(n, loads, surpluses, levels);
+    let total = total(n, loads);
+    let span = span_of(n, surpluses, total);
     let offset = offset(kind, span.low, span.high);
-    let rounds = greater(largest(n, loads, surpluses), (span.high - span.low + 1) / 2);
-    let tally = tally_of(n, levels, offset, costs);
+    let rounds = rounds(kind, n, surpluses, total, span.high - span.low);
+    let tally = tally_of(n, surpluses, costs, total, offset);
     let moves = tally.moves;
     let slowest = tally.slowest;
     Outline {
+        total,
         offset,
         rounds: Items(rounds),
         moves,

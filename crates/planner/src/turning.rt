@@ -7,9 +7,8 @@ ghost use Rattle.planner.specs.Turn.{turnIn, turnOf};
 use crate::Turn;
 use crate::sums::outline_of;
 use hop::Check;
-use hop::MOST_BOARDS;
 
-// The turn of an accepted ring. The level of the last link is the total of the loads, and board 0 begins at the offset, taken modulo that.
+// The turn of an accepted ring: the total of the loads, and the offset, taken modulo that, where board 0 begins.
 fn turn_ring<'a>(
     kind: u8,
     n: usize,
@@ -20,9 +19,8 @@ fn turn_ring<'a>(
     requires { ⌜ Lent kind n (now loads) (now surpluses) (now costs) ⌝ }
     ensures { λ r. ⌜ r ≡ turnIn (ringIn kind n (now (loads .entry)) (now (surpluses .entry)) (now (costs .entry))) ⌝ }
 {
-    let mut levels = [0u32; MOST_BOARDS];
-    let o = outline_of(kind, n, loads, surpluses, costs, &mut levels);
-    let total = levels[n - 1];
+    let o = outline_of(kind, n, loads, surpluses, costs);
+    let total = o.total;
     Turn {
         columns: total,
         first: o.offset % total,

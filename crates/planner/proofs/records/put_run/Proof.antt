@@ -9,7 +9,7 @@ use borrow.Rule.Slice.PartMut.{midOf}
 use borrow.Author.Needs.{needs}
 use Rattle.ring.specs.Lists.{joined}
 use Rattle.ring.specs.Bytes.{sendBytes}
-use Rattle.planner.specs.EvenRuns.{linkBytes}
+use Rattle.planner.specs.Links.{linkBytes}
 use Rattle.hop.proofs.Grow.{Begins, more}
 use Rattle.planner.proofs.Bytes.{send-long}
 use Rattle.planner.proofs.records.put_run.Statement.{statement}

@@ -1,106 +1,73 @@
 -- `sums::outline_of`: the steps put together. Assumes nothing.
-use mathlib.Core.Path.{_≡_, refl}
-use mathlib.Core.List.{List}
-use Prim.Native.Nat.{ℕ, _*_, _-_, _≤_}
+use Prim.Native.Nat.{_*_, _-_, _≤_}
 use native.Mathlib.Omega.{arith}
-use denote.Ref.{now}
-use Rattle.ring.specs.Lists.{fill}
-use Rattle.ring.specs.Boards.{Ring, ringIn, mostLoad}
-use Rattle.ring.specs.Plan.{level, low, high}
-use Rattle.planner.specs.Outline.{spanOf}
-use Rattle.planner.proofs.SumOutline.{board-held, levels-long, spread-most, carried-most, whole}
+use Rattle.ring.specs.Boards.{mostLoad}
+use Rattle.planner.proofs.SumOutline.{levels-of, spread-most, carried-most, whole}
 use borrow.Author.Needs.{needs}
 use Rattle.planner.proofs.sums.outline_of.Statement.{statement}
 use Rattle.planner.proofs.sums.outline_of.Tie as tie
 
-abbrev ring : tie.Start → Ring
-ring s = ringIn (s .args .kind) (s .args .n) (now (s .args .loads)) (now (s .args .surpluses)) (now (s .args .costs))
+total-requires : tie.Need-total-requires
+total-requires c κs = search needs
 
--- the levels that were put, which are the ring's whatever its kind and costs
-abbrev levels : tie.After-put-levels → List ℕ
-levels c = c .put-levels .last .1 .1 .1 .0
+span-of-requires : tie.Need-span-of-requires
+span-of-requires c κs = levels-of (c .before .before .before .pre) (c .total .result) (c .total .ensures)
 
-put-levels-requires : tie.Need-put-levels-requires
-put-levels-requires c κs = let p = c .before .before .before .before .pre in ((p .0 .accepted .boards, p .1, board-held (p .0)), p .0 .accepted .balanced)
-
-filled : (c : tie.After-put-levels) → let s = c .before .before .before .before .before in levels c ≡ fill (level (ring s)) (s .args .n) (now (s .args .levels))
-unfolding level
-filled c = c .put-levels .ensures .1
-
-span : (c : tie.After-put-levels) → c .put-levels .result ≡ spanOf (ring (c .before .before .before .before .before))
-unfolding low high level
-span c = c .put-levels .ensures .0
-
-spanned : (c : tie.After-put-levels) → (c .put-levels .result .low ≤ c .put-levels .result .high) × (c .put-levels .result .high - c .put-levels .result .low ≤ 128 * mostLoad)
-spanned l =
-    let s = l .before .before .before .before .before in
-    spread-most (ring s) (s .pre .0 .accepted) _ (levels l) (s .pre .1) (filled l) (l .put-levels .result) (span l)
+-- how far the levels spread
+spanned : (c : tie.After-span-of) → (c .span-of .result .low ≤ c .span-of .result .high) × (c .span-of .result .high - c .span-of .result .low ≤ 128 * mostLoad)
+spanned c =
+    let t = c .before in
+    spread-most (t .before .before .before .pre) (t .total .result) (t .total .ensures) (c .span-of .result) (c .span-of .ensures)
 
 offset-requires : tie.Need-offset-requires
-offset-requires c κs = spanned (c .before .before) .0
+offset-requires c κs = spanned c .0
 
-largest-requires : tie.Need-largest-requires
-largest-requires c κs = let p = c .before .before .before .before .before .before .before .before .pre .0 in (omega (arith, p .accepted .boards), board-held p)
+sub-rounds : tie.Need-sub-rounds
+sub-rounds c = spanned (c .before .before) .0
 
-sub-greater : tie.Need-sub-greater
-sub-greater c = spanned (c .before .before .before .before .before) .0
-
-add-greater : tie.Need-add-greater
-add-greater c = omega (arith, spanned (c .before .before .before .before .before) .1)
-
-greater-requires : tie.Need-greater-requires
-greater-requires c κs = search needs
+rounds-requires : tie.Need-rounds-requires
+rounds-requires c κs =
+    let s = c .before .before in
+    let t = s .before in
+    let lent = t .before .before .before .pre in
+    (omega (arith, lent .accepted .boards), levels-of lent (t .total .result) (t .total .ensures), spanned s .1)
 
 tally-of-requires : tie.Need-tally-of-requires
 tally-of-requires c κs =
-    let o = c .before .before .before .before in
-    let l = o .before .before .before in
-    let s = l .before .before .before .before .before in
-    let ok = s .pre .0 .accepted in (
-      omega (arith, ok .boards),
-      omega (arith, ok .boards),
-      levels-long (ring s) ok _ (levels l) (s .pre .1) (filled l),
-      s .pre .0 .costs-long,
-      carried-most (ring s) ok _ (levels l) (s .pre .1) (filled l) (l .put-levels .result) (span l) (o .offset .result) (o .offset .ensures),
+    let o = c .before .before in
+    let s = o .before in
+    let t = s .before in
+    let lent = t .before .before .before .pre in (
+      (omega (arith, lent .accepted .boards), omega (arith, lent .accepted .boards), lent .costs-long, levels-of lent (t .total .result) (t .total .ensures)),
+      carried-most lent (t .total .result) (t .total .ensures) (s .span-of .result) (s .span-of .ensures) (o .offset .result) (o .offset .ensures),
     )
 
 shared-slice-read-finish : tie.Need-shared-slice-read-finish
-shared-slice-read-finish c =
-    let s = c .before .before .before .before .before .before .before .before .before .before .before .before .before .before .before .before in
-    omega (arith, s .pre .0 .accepted .boards, s .pre .0 .costs-long)
+shared-slice-read-finish c = search needs
 
 finish-requires : tie.Need-finish-requires
 finish-requires c κs = search needs
 
-same-length : tie.Need-same-length
-same-length c = search needs
-
 returns : tie.Need-returns
 returns c =
-    let t = c .before .before .before .before in
-    let g = t .before .before in
-    let b = g .before .before in
-    let o = b .before in
-    let l = o .before .before .before in
-    let s = l .before .before .before .before .before in (
-      whole (ring s) (s .pre .0 .accepted) _ (levels l) (s .pre .1) (filled l) (l .put-levels .result) (span l) (o .offset .result) (o .offset .ensures)
-          (b .largest .result) (g .greater .result) (b .largest .ensures) (g .greater .ensures)
-          (now (s .args .costs)) (λ i h. refl) (t .tally-of .result) (t .tally-of .ensures) (c .finish .result) (c .finish .ensures),
-      filled l,
-    )
+    let u = c .before .before .before .before in
+    let r = u .before in
+    let o = r .before .before in
+    let s = o .before in
+    let t = s .before in
+    whole (t .before .before .before .pre) (t .total .result) (t .total .ensures) (s .span-of .result) (s .span-of .ensures) (o .offset .result) (o .offset .ensures)
+    (r .rounds .result) (r .rounds .ensures) (u .tally-of .result) (u .tally-of .ensures) (c .finish .result) (c .finish .ensures)
 
 pub outline-of-spec : {M : Type 1} → statement M
 outline-of-spec =
     tie.close
     (tie.spec
-    put-levels-requires
+    total-requires
+    span-of-requires
     offset-requires
-    largest-requires
-    sub-greater
-    add-greater
-    greater-requires
+    sub-rounds
+    rounds-requires
     tally-of-requires
     shared-slice-read-finish
     finish-requires
-    same-length
     returns)

@@ -1,48 +1,60 @@
 -- `sums::tally_of`: what the links passed carry. Assumes nothing.
 use mathlib.Core.Path.{_≡_, refl, ap, _∙_}
-use Prim.Native.Nat.{ℕ, _*_, _-_, _≤_}
+use Prim.Native.Nat.{ℕ, suc, _+_, _*_, _-_, _≤_, max}
 use native.Mathlib.Omega.{arith}
 use native.Mathlib.Nat.{mul-comm}
 use native.Mathlib.Numerals.{add-one}
 use denote.Ref.{now}
 use lib.Dec.{ltb}
-use lib.ListN.{getD}
+use Rattle.ring.specs.Numbers.{pick, sum, sumℤ}
+use Rattle.ring.specs.Lists.{each}
 use Rattle.ring.specs.Boards.{mostLoad}
-use Rattle.ring.specs.Numbers.{pick, sum}
-use Rattle.planner.specs.Outline.{carriesIn}
+use Rattle.planner.specs.Outline.{between, before, carriesBy}
+use Rattle.planner.proofs.SumLevels.{may-rise, rises}
 use Rattle.planner.proofs.SumWalk.{highest, summit, highest-is, summit-is}
 use borrow.Author.Needs.{needs}
 use Rattle.planner.proofs.sums.tally_of.Statement.{statement}
 use Rattle.planner.proofs.sums.tally_of.Tie as tie
 
 abbrev Inv-loop : tie.InvT-loop
-Inv-loop n levels offset costs moves₀ tight₀ most₀ slowest₀ i₀ moves tight most slowest i =
+Inv-loop n surpluses costs total offset level₀ moves₀ tight₀ most₀ slowest₀ i₀ level moves tight most slowest i =
     (i ≤ n)
-    × (moves ≡ sum (carriesIn levels offset) i)
+    × (level ≡ before total surpluses i)
+    × (moves ≡ sum (carriesBy total surpluses offset) i)
     × (moves ≤ 128 * mostLoad * i)
-    × (tight ≡ summit (carriesIn levels offset) i)
-    × (most ≡ highest (carriesIn levels offset) i)
-    × (slowest .0 ≡ highest (λ k. carriesIn levels offset k * getD costs k 0) i)
+    × (tight ≡ summit (carriesBy total surpluses offset) i)
+    × (most ≡ highest (carriesBy total surpluses offset) i)
+    × (slowest .0 ≡ highest (λ k. carriesBy total surpluses offset k * each costs k) i)
 
 abbrev μ-loop : tie.MeasureT-loop
-μ-loop n levels offset costs moves₀ tight₀ most₀ slowest₀ i₀ moves tight most slowest i = n - i
-
--- what link i carries
-at : (c : tie.After-apart Inv-loop μ-loop) → let l = c .before .before .before in let a = l .before .before .before .args in (c .apart .result ≡ carriesIn (now (a .levels)) (a .offset) (l .loop .i)) × (c .apart .result ≤ 128 * mostLoad)
-at c =
-    let l = c .before .before .before in
-    let s = l .before .before .before in
-    (c .apart .ensures, omega (arith, c .apart .ensures, s .pre .4 (l .loop .i) (c .before .before .loop-test .taken)))
+μ-loop n surpluses costs total offset level₀ moves₀ tight₀ most₀ slowest₀ i₀ level moves tight most slowest i = n - i
 
 loop-holds : tie.Need-loop-holds Inv-loop μ-loop
-unfolding highest summit sum
-loop-holds c = (omega arith, refl, omega arith, refl, refl, refl)
+unfolding sumℤ sum highest summit
+loop-holds c = (omega arith, omega arith, refl, omega arith, refl, refl, refl)
 
-mul-apart : tie.Need-mul-apart Inv-loop μ-loop
-mul-apart c = search needs
+mul-surplus : tie.Need-mul-surplus Inv-loop μ-loop
+mul-surplus c = search needs
 
-shared-slice-read-apart : tie.Need-shared-slice-read-apart Inv-loop μ-loop
-shared-slice-read-apart c = search needs
+shared-slice-copy-out-surplus : tie.Need-shared-slice-copy-out-surplus Inv-loop μ-loop
+shared-slice-copy-out-surplus c = search needs
+
+risen-requires : tie.Need-risen-requires Inv-loop μ-loop
+risen-requires c κs = let l = c .before .before in may-rise (l .before .before .pre .0 .3) (l .loop .i) (c .before .loop-test .taken) (l .loop .inv .1) (c .surplus .given)
+
+-- the next level
+risen-is : (c : tie.After-risen Inv-loop μ-loop) → let l = c .before .before .before in let a = l .before .before .args in c .risen .result ≡ before (a .total) (now (a .surpluses)) (suc (l .loop .i))
+risen-is c =
+    let l = c .before .before .before in
+    c .risen .ensures ∙ rises (l .before .before .pre .0 .3) (l .loop .i) (c .before .before .loop-test .taken) (l .loop .inv .1) (c .before .surplus .given)
+
+-- what link i carries
+at : (c : tie.After-apart Inv-loop μ-loop) → let l = c .before .before .before .before in let a = l .before .before .args in (c .apart .result ≡ carriesBy (a .total) (now (a .surpluses)) (a .offset) (l .loop .i)) × (c .apart .result ≤ 128 * mostLoad)
+at c =
+    let l = c .before .before .before .before in
+    let s = l .before .before in
+    let is = c .apart .ensures ∙ (λ t. between (risen-is (c .before) t) (s .args .offset)) in
+    (is, omega (arith, is, s .pre .1 (l .loop .i) (c .before .before .before .loop-test .taken)))
 
 apart-requires : tie.Need-apart-requires Inv-loop μ-loop
 apart-requires c κs = search needs
@@ -75,34 +87,35 @@ loop-less : tie.Need-loop-less Inv-loop μ-loop
 loop-less c = search needs
 
 loop-again : tie.Need-loop-again Inv-loop μ-loop
-unfolding highest summit sum
+unfolding sum highest summit
 loop-again c =
     let t = c .before .before .before .before .before in
-    let l = t .before .before .before in
-    let s = l .before .before .before in
+    let l = t .before .before .before .before in
     let i = l .loop .i in
     let is = at t .0 in
-    let cost = getD (now (s .args .costs)) i 0 in
+    let cost = each (now (l .before .before .args .costs)) i in
     let ticks = c .before .link-time .ensures ∙ mul-comm cost (t .apart .result) ∙ ap (λ (x : ℕ). x * cost) is in (
       omega arith,
-      rw (add-one, sum) (omega (arith, is)),
+      rw add-one (risen-is (t .before)),
+      rw (add-one, sum) (λ k. l .loop .inv .2 k + is k),
       omega (arith, at t .1),
-      rw (add-one, summit) (c .before .before .before .before .heavier .ensures ∙ (λ k. pick (ltb (l .loop .inv .4 k) (is k)) i (l .loop .inv .3 k))),
-      rw (add-one, highest) (omega (arith, is, c .before .before .before .greater .ensures)),
-      rw (add-one, highest) (omega (arith, ticks, c .later .ensures)),
+      rw (add-one, summit) (c .before .before .before .before .heavier .ensures ∙ (λ k. pick (ltb (l .loop .inv .5 k) (is k)) i (l .loop .inv .4 k))),
+      rw (add-one, highest) (c .before .before .before .greater .ensures ∙ (λ k. max (l .loop .inv .5 k) (is k))),
+      rw (add-one, highest) (c .later .ensures ∙ (λ k. max (l .loop .inv .6 k) (ticks k))),
     )
 
 returns : tie.Need-returns Inv-loop μ-loop
 returns c =
     let l = c .before in
-    let s = l .before .before .before in
-    let g = carriesIn (now (s .args .levels)) (s .args .offset) in
-    let h : ℕ → ℕ = λ k. carriesIn (now (s .args .levels)) (s .args .offset) k * getD (now (s .args .costs)) k 0 in
-    let e : l .loop .i ≡ s .args .n = omega arith in
+    let s = l .before .before in
+    let a = s .args in
+    let g = carriesBy (a .total) (now (a .surpluses)) (a .offset) in
+    let h : ℕ → ℕ = λ k. carriesBy (a .total) (now (a .surpluses)) (a .offset) k * each (now (a .costs)) k in
+    let e : l .loop .i ≡ a .n = omega arith in
     let inv = rw e at (l .loop .inv) in
-    let tight = inv .3 ∙ summit-is g (s .args .n) (s .pre .0) in
-    let slowest = inv .5 ∙ highest-is h (s .args .n) (s .pre .0) in
-    λ t. record { moves = record { 0 = inv .1 t }; tight = tight t; slowest = record { 0 = slowest t } }
+    let tight = inv .4 ∙ summit-is g (a .n) (s .pre .0 .0) in
+    let slowest = inv .6 ∙ highest-is h (a .n) (s .pre .0 .0) in
+    λ t. record { moves = record { 0 = inv .2 t }; tight = tight t; slowest = record { 0 = slowest t } }
 
 pub tally-of-spec : {M : Type 1} → statement M
 tally-of-spec =
@@ -111,8 +124,9 @@ tally-of-spec =
     Inv-loop
     μ-loop
     loop-holds
-    mul-apart
-    shared-slice-read-apart
+    mul-surplus
+    shared-slice-copy-out-surplus
+    risen-requires
     apart-requires
     add-moves
     heavier-requires

@@ -3,14 +3,14 @@ use mathlib.Core.Path.{_≡_}
 use Prim.Native.Nat.{_*_, _≤_, _-_}
 use native.Mathlib.Omega.{arith}
 use native.Mathlib.Numerals.{add-one}
-use lib.ListN.{getD}
 use Rattle.ring.specs.Numbers.{sum}
+use Rattle.ring.specs.Lists.{each}
 use borrow.Author.Needs.{needs}
 use Rattle.planner.proofs.sums.total.Statement.{statement}
 use Rattle.planner.proofs.sums.total.Tie as tie
 
 abbrev Inv-loop : tie.InvT-loop
-Inv-loop n loads sum₀ i₀ so-far i = (i ≤ n) × (so-far ≡ sum (λ k. getD loads k 0) i) × (so-far ≤ 65535 * i)
+Inv-loop n loads sum₀ i₀ so-far i = (i ≤ n) × (so-far ≡ sum (each loads) i) × (so-far ≤ 65535 * i)
 
 abbrev μ-loop : tie.MeasureT-loop
 μ-loop n loads sum₀ i₀ so-far i = n - i
