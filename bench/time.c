@@ -71,6 +71,42 @@ static size_t half_to_half(int kind, int items, enum costs costs)
     return 7 + 6 * 128;
 }
 
+/* Board 0's 64 items go down 127 boards of load 1 and costs that fall: each link waits for all that are behind it. */
+static size_t small_chain(void)
+{
+    put_head(2, 128);
+    for (int i = 0; i < 128; i++) put_board(i, 1, 0, 400 - 3 * i);
+    put_board(0, 65, 64, 400);
+    put_board(127, 1, -64, 19);
+    return 7 + 6 * 128;
+}
+
+/* Board 0's 400 items go down 127 boards of load 2, each cost two less than the one before: a link's sends go at the pace of the link itself, then of
+   the one behind it and so on. The last that sends goes at the pace of each of the 127 links that send, and where two of these meet between two sends
+   there is an odd step: 253 runs of even steps, the most that was found. */
+static size_t most_runs(void)
+{
+    put_head(2, 128);
+    for (int i = 0; i < 128; i++) put_board(i, 2, 0, 255 - 2 * i);
+    put_board(0, 401, 400, 255);
+    put_board(127, 2, -400, 1);
+    return 7 + 6 * 128;
+}
+
+/* How many runs of even steps the starts of a link are. */
+static int runs_of(int link, const uint8_t *records, const uint8_t *end)
+{
+    int runs = 0, sends = 0;
+    long last = 0, pace = -1;
+    for (; records < end; records += 6) {
+        long start = (long)records[2] << 24 | records[3] << 16 | records[4] << 8 | records[5];
+        if (records[0] != link) continue;
+        if (sends++ > 0 && start - last != pace) pace = start - last, runs++;
+        last = start;
+    }
+    return runs;
+}
+
 /* N is 524,160 less the items: each board has 4,095 columns, but board 0, which gets so many from the two beside it, half from each; in kind 1 all
    from the one before it. Each item is one send. */
 static size_t all_columns(int kind, int items)
@@ -155,6 +191,9 @@ int main(void)
     wrong += compare_plans("one way, costs falling", half_to_half(2, 244, FALLING), 1);
     wrong += compare_plans("one way, costs mixed", half_to_half(2, 244, MIXED), 1);
     wrong += compare_plans("two way", half_to_half(3, 488, ALIKE), 1);
+    wrong += compare_plans("a chain of small loads", small_chain(), 30);
+    wrong += compare_plans("a link of 253 runs", most_runs(), 5);
+    if (runs_of(126, theirs + 15, theirs + 15 + 6 * 127 * 400) != 253) wrong += printf("that link has another number of runs\n") > 0;
     printf("%-28s %9s %12s %12s %10s %8s %8s\n", "", "columns", "library, ns", "C, ns", "one, ns", "in C", "ratio");
     wrong += compare_columns("case A", case_a(), 2000, 9);
     wrong += compare_columns("100 sends", all_columns(1, 100), 2, COLUMNS - 100);
