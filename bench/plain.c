@@ -118,8 +118,7 @@ static uint64_t outline(const uint8_t *job, size_t job_length, size_t plan_room,
         r->at[i] = 15 + 6 * r->moves;
         r->moves += size(r->f[i]);
         time = (uint64_t)size(r->f[i]) * r->cost[i];
-        if (time > r->finish) r->finish = time;
-        if (size(r->f[i]) > size(r->f[r->tight])) r->tight = i;
+        if (time > r->finish) r->finish = time, r->tight = i;
         if (size(r->surplus[i]) > r->rounds) r->rounds = size(r->surplus[i]);
     }
     if (r->kind == 3) r->finish = (uint64_t)r->rounds * r->cost[0];

@@ -28,6 +28,9 @@ const RINGS: u32 = 24000;
 // What was compared, what differed, and what the judge found.
 struct Counts {
     waiting: u32,
+    // plans whose tight link carries fewer items than another, and in which another link is as tight
+    lighter: u32,
+    equals: u32,
     // plans with a load or a cost at its limit, and with a finish past 16 and 24 bits
     loads: u32,
     costs: u32,
@@ -140,6 +143,8 @@ fn counted(counts: Counts, job: Job, mine: Answer) -> Counts {
     }
     let mut more = counts;
     more.waiting = more_if(counts.waiting, 0 < mine.waits);
+    more.lighter = more_if(counts.lighter, 0 < mine.lighter);
+    more.equals = more_if(counts.equals, 0 < mine.equals);
     more.loads = more_if(counts.loads, job.load == 4095);
     more.costs = more_if(counts.costs, job.cost == 8000);
     more.past16 = more_if(counts.past16, 65535 < mine.finish);
@@ -307,6 +312,8 @@ fn compare_ring(
 fn compare_all(mine: &mut [u8], theirs: &mut [u8], lists: &mut [u32]) -> Counts {
     let mut counts = Counts {
         waiting: 0,
+        lighter: 0,
+        equals: 0,
         loads: 0,
         costs: 0,
         past16: 0,
@@ -347,6 +354,11 @@ fn print_rings(counts: Counts) {
     numbered(b"plans judged of kind ", 2, judged[2]);
     numbered(b"plans judged of kind ", 3, judged[3]);
     line(b"plans in which a board waits: ", counts.waiting);
+    line(
+        b"plans whose tight link carries fewer items than another: ",
+        counts.lighter,
+    );
+    line(b"plans in which another link is as tight: ", counts.equals);
 }
 
 fn print_limits(counts: Counts) {

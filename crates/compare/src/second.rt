@@ -20,6 +20,10 @@ pub(crate) struct Answer {
     pub(crate) finish: u32,
     pub(crate) moves: u32,
     pub(crate) tight: u8,
+    // for how many ticks of the play the tight link was busy, how many others were busy as long, and how many items more than it a link carries
+    pub(crate) busy: u32,
+    pub(crate) equals: u32,
+    pub(crate) lighter: u32,
     // how often a board of a one-way ring had an item to send, a free link, and none in hand
     pub(crate) waits: u32,
     // the sends that the play never came to
@@ -34,23 +38,24 @@ struct Sums {
     widest: u32,
 }
 
-// A board in play and its link: the sends that are left, all of one direction, the end of the last one, and the place of the next record.
+// A board in play and its link: the sends that are left, all of one direction, the end of the last one, the ticks that the link was busy so far, and
+// the place of the next record.
 struct Board {
     load: u32,
     cost: u32,
     left: u32,
     direction: u8,
     end: u32,
+    busy: u32,
     place: usize,
     waits: u32,
 }
 
-// The boards as a play begins, the moves, the most that a link carries, and which.
+// The boards as a play begins, the moves, and the most that a link carries.
 struct Ring {
     boards: [Board; 128],
     moves: u32,
     most: u32,
-    tight: u8,
 }
 
 // The size of a number in two's complement.
@@ -98,13 +103,6 @@ fn offset_of(kind: u8, low: u32, high: u32) -> u32 {
     }
 }
 
-// Which link is tight when link i, that carries so many, is looked at.
-fn tighter(tight: u8, most: u32, items: u32, i: usize) -> u8
-    requires { ⌜ i < 128 ⌝ }
-{
-    if most < items { i as u8 } else { tight }
-}
-
 // A board as a play begins: its link has this S, and so many sends are on the links before.
 fn board_of(load: u32, cost: u32, sum: u32, offset: u32, before: u32) -> Board {
     Board {
@@ -113,6 +111,7 @@ fn board_of(load: u32, cost: u32, sum: u32, offset: u32, before: u32) -> Board {
         left: most(above(sum, offset), above(offset, sum)),
         direction: if sum < offset { 1 } else { 0 },
         end: 0,
+        busy: 0,
         place: length(before),
         waits: 0,
     }
@@ -124,14 +123,12 @@ fn ring_of(job: Job, sums: Sums) -> Ring {
         boards: [rest; 128],
         moves: 0,
         most: 0,
-        tight: 0,
     };
     let offset = offset_of(job.kind, sums.low, sums.high);
     let n = boards(job.n);
     for i in 0..n {
         let board = board_of(job.loads[i], job.costs[i], sums.each[i], offset, ring.moves);
         ring.boards[i] = board;
-        ring.tight = tighter(ring.tight, ring.most, board.left, i);
         ring.moves = wrapping_add_u32(ring.moves, board.left);
         ring.most = most(ring.most, board.left);
     }
@@ -177,6 +174,7 @@ fn send(board: Board, i: usize, t: u32, buf: &mut [u8]) -> Board
     let mut more = board;
     more.left = above(board.left, 1);
     more.end = wrapping_add_u32(t, board.cost);
+    more.busy = wrapping_add_u32(board.busy, board.cost);
     more.place = wrapping_add_usize(at, 6);
     more
 }
@@ -290,20 +288,46 @@ pub(crate) fn refused(number: u8, board: u8) -> Answer {
         finish: 0,
         moves: 0,
         tight: 0,
+        busy: 0,
+        equals: 0,
+        lighter: 0,
         waits: 0,
         left: 0,
     }
 }
 
-// What the boards after a play come to.
+// The answer when link i is looked at after the links above it: the tight link is the one that was busy longest, of equals the lowest, and link 0 where
+// none was busy.
+fn tighter(answer: Answer, busy: u32, i: usize) -> Answer
+    requires { ⌜ i < 128 ⌝ }
+{
+    if busy == 0 {
+        return answer;
+    }
+    if busy < answer.busy {
+        return answer;
+    }
+    let mut more = answer;
+    more.equals = if busy == answer.busy {
+        wrapping_add_u32(answer.equals, 1)
+    } else {
+        0
+    };
+    more.tight = i as u8;
+    more.busy = busy;
+    more
+}
+
+// What the boards after a play come to, from the last one down.
 fn answer_of(ring: Ring, n: usize) -> Answer
     requires { ⌜ n ≤ 128 ⌝ }
 {
     let mut answer = refused(0, 0);
     answer.moves = ring.moves;
-    answer.tight = ring.tight;
-    for i in 0..n {
+    for k in 0..n {
+        let i = n - 1 - k;
         let board = ring.boards[i];
+        answer = tighter(answer, board.busy, i);
         answer.finish = most(answer.finish, board.end);
         answer.waits = wrapping_add_u32(answer.waits, board.waits);
         answer.left = wrapping_add_u32(answer.left, board.left);
@@ -331,7 +355,9 @@ pub(crate) fn plan(job: Job, buf: &mut [u8]) -> Answer {
     if buf.len() < length(ring.moves) {
         return refused(13, 0);
     }
-    let answer = answer_of(played(job, sums, ring, buf), boards(job.n));
+    let mut answer = answer_of(played(job, sums, ring, buf), boards(job.n));
+    let tight = ring.boards[(answer.tight % 128) as usize];
+    answer.lighter = above(ring.most, tight.left);
     put_head(buf, job.kind, job.n, answer.finish, answer.moves);
     answer
 }

@@ -9,11 +9,11 @@ use lib.IntN.{ℤ}
 use Rattle.ring.specs.Numbers.{pick, sum, least, greatest, peak}
 use Rattle.ring.specs.Lists.{each}
 use Rattle.ring.specs.Boards.{ringIn}
-use Rattle.ring.specs.Plan.{level, low, high, R, ahead, behind, carries, surplusSize, rounds, moves, tight}
+use Rattle.ring.specs.Plan.{level, low, high, R, ahead, behind, carries, surplusSize, rounds, linkTime, moves, tight}
 use Rattle.ring.proofs.Sums.{sum-eq, least-le, le-greatest, peak-is}
 use Rattle.planner.specs.declared.sums.Span.{Span}
 use Rattle.planner.specs.declared.sums.Tally.{Tally}
-use Rattle.planner.specs.Outline.{Lent, before, carriesBy, spanOf, stepBy, roundsBy, tallyOf}
+use Rattle.planner.specs.Outline.{Lent, before, carriesBy, spanOf, stepBy, roundsBy, timeBy, tallyOf}
 use Rattle.planner.proofs.SumLevels.{level-is, before-is, step-is}
 
 module _ (f g : ℕ → ℕ) where
@@ -80,13 +80,10 @@ module _ {kind n : ℕ} {loads : List ℕ} {surpluses : List ℤ} {costs : List 
         (record {
           moves = record { 0 = moves (ringIn kind n loads surpluses costs) o };
           tight = tight (ringIn kind n loads surpluses costs) o;
-          slowest = record { 0 = greatest (λ i. carries (ringIn kind n loads surpluses costs) o i * each costs i) (n - 1) };
+          slowest = record { 0 = greatest (linkTime (ringIn kind n loads surpluses costs) o) (n - 1) };
         })
     unfolding tight
     tally-is =
-        let r = ringIn kind n loads surpluses costs in
-        let f = carriesBy (sum (each loads) n) surpluses o in
-        let is : (i : ℕ) → i ≤ n - 1 → f i ≡ carries r o i = λ i h. carries-is i (omega (arith, lent .accepted .boards)) in
-        let p = same f (carries r o) (n - 1) is in
-        let q = same (λ i. f i * each costs i) (λ i. carries r o i * each costs i) (n - 1) (λ i h t. is i h t * each costs i) in
-        λ t. record { moves = record { 0 = items-are t }; tight = p .top t; slowest = record { 0 = q .high t } }
+        let p = same (timeBy (sum (each loads) n) surpluses o costs) (linkTime (ringIn kind n loads surpluses costs) o) (n - 1)
+        (λ i h t. carries-is i (omega (arith, lent .accepted .boards)) t * each costs i) in
+        λ t. record { moves = record { 0 = items-are t }; tight = p .top t; slowest = record { 0 = p .high t } }

@@ -55,13 +55,17 @@ module _ (total : ℕ) (surpluses : List ℤ) where
   abbrev pub roundsBy : ℕ → ℕ → ℕ → ℕ
   roundsBy kind n spread = pick (eqb kind 3) (max (greatest stepBy (n - 1)) ((spread + 1) / 2)) 0
 
-  -- all items carried, the lowest link that carries the most, and the longest time that a link takes for its items
+  -- how long link i takes for its items: items × cost
+  abbrev pub timeBy : ℕ → List ℕ → ℕ → ℕ
+  timeBy offset costs i = carriesBy offset i * each costs i
+
+  -- all items carried, the lowest link that takes longest for its items, and how long it takes
   abbrev pub tallyOf : ℕ → ℕ → List ℕ → Tally
   tallyOf n offset costs =
       record {
         moves = record { 0 = sum (carriesBy offset) n };
-        tight = peak (carriesBy offset) (n - 1);
-        slowest = record { 0 = greatest (λ i. carriesBy offset i * each costs i) (n - 1) };
+        tight = peak (timeBy offset costs) (n - 1);
+        slowest = record { 0 = greatest (timeBy offset costs) (n - 1) };
       }
 
   -- what each of the first k boards sends and receives: on its link, and on the link before it

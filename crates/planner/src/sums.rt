@@ -28,7 +28,7 @@ struct Span {
     high: u32,
 }
 
-// What the links carry together, which carries the most, and the longest time that one of them takes.
+// What the links carry together, the tight link, and how long that one takes for its items: none takes longer.
 struct Tally {
     moves: Items,
     tight: u8,
@@ -129,39 +129,48 @@ fn rounds(kind: u8, n: usize, surpluses: &[i16], total: u32, spread: u32) -> u32
     }
 }
 
-// Link i where it carries more than the most so far, else the tight link so far.
-fn heavier(tight: u8, most: u32, i: usize, items: u32) -> u8
-    requires { ⌜ i < 128 ⌝ }
-    ensures { λ r. ⌜ r ≡ pick (ltb most items) i tight ⌝ }
+// The tally with link i too, that carries so many items in so long a time: it is the tight link where each before it takes less.
+fn with_link(tally: Tally, i: usize, items: u32, time: Ticks) -> Tally
+    requires { ⌜ (i < 128) × (tally .moves .0 + items < 4294967296) ⌝ }
+    ensures { λ r. ⌜ r .moves .0 ≡ tally .moves .0 + items ⌝ }
+    ensures { λ r. ⌜ r .tight ≡ pick (ltb (tally .slowest .0) (time .0)) i (tally .tight) ⌝ }
+    ensures { λ r. ⌜ r .slowest .0 ≡ max (tally .slowest .0) (time .0) ⌝ }
 {
-    if most < items { i as u8 } else { tight }
+    let all = tally.moves.0 + items;
+    let slowest = tally.slowest;
+    if slowest.0 < time.0 {
+        return Tally {
+            moves: Items(all),
+            tight: i as u8,
+            slowest: time,
+        };
+    }
+    Tally {
+        moves: Items(all),
+        tight: tally.tight,
+        slowest,
+    }
 }
 
-// What n links carry, each the difference of its level and the offset.
+// What n links carry, each the difference of its level and the offset, and the slowest of them.
 fn tally_of(n: usize, surpluses: &[i16], costs: &[u16], total: u32, offset: u32) -> Tally
     requires { ⌜ (1 ≤ n) × (n ≤ 128) × (n ≤ length (now costs)) × Levels n total (now surpluses) ⌝ }
     requires { ⌜ ((i : ℕ) → i < n → carriesBy total (now surpluses) offset i ≤ 128 * mostLoad) ⌝ }
     ensures { λ r. ⌜ r ≡ tallyOf total (now (surpluses .entry)) n offset (now (costs .entry)) ⌝ }
 {
     let mut level = total;
-    let mut moves: u32 = 0;
-    let mut tight: u8 = 0;
-    let mut most: u32 = 0;
-    let mut slowest = Ticks(0);
+    let mut tally = Tally {
+        moves: Items(0),
+        tight: 0,
+        slowest: Ticks(0),
+    };
     for i in 0..n {
         let surplus = surpluses[i];
         level = risen(level, surplus);
         let items = apart(level, offset);
-        moves += items;
-        tight = heavier(tight, most, i, items);
-        most = greater(most, items);
-        slowest = later(slowest, ring::link_time(costs[i], Items(items)));
+        tally = with_link(tally, i, items, ring::link_time(costs[i], Items(items)));
     }
-    Tally {
-        moves: Items(moves),
-        tight,
-        slowest,
-    }
+    tally
 }
 
 // The number taken from every level.

@@ -23,7 +23,7 @@ jobA =
     ∷ []
 
 pub case-a : printed jobA
-    ≡ ascii "finish 9 moves 7 tight 0\nboard 0 sends 3 receives 0\nboard 1 sends 3 receives 3\nboard 2 sends 1 receives 3\nboard 3 sends 0 receives 1\n"
+    ≡ ascii "finish 9 moves 7 tight 1\nboard 0 sends 3 receives 0\nboard 1 sends 3 receives 3\nboard 2 sends 1 receives 3\nboard 3 sends 0 receives 1\n"
 unfolding sum sumℤ least greatest peak total joined fill boardOf endsAfter level low high offset ahead behind endBack rounds startOf finishOf moves tight faultless ringCheck checkOf jobOf planAnswer reportOf printed digits decimal
 case-a = refl
 

@@ -6,7 +6,7 @@ use native.Mathlib.Omega.{arith}
 use borrow.Author.Tests.{eq-eqb, ne-eqb}
 use Rattle.ring.specs.Numbers.{sum}
 use Rattle.ring.specs.Boards.{Ring, Accepted, mostLoad, mostCost}
-use Rattle.ring.specs.Plan.{carries, surplusSize, rounds, moves, finishOf}
+use Rattle.ring.specs.Plan.{carries, surplusSize, rounds, moves, linkTime, finishOf}
 use Rattle.ring.proofs.Sums.{sum-term, sum-most, greatest-has}
 use Rattle.ring.proofs.Level.{Fits, carries-le, spread}
 
@@ -46,6 +46,6 @@ module _ (r : Ring) (ok : Accepted r) where
           | inl two ↦ rw (eq-eqb (r .kind) 3 (two .kind)) (time-most (rounds r) 0 (omega (arith, ok .boards)) rounds-most)
           | inr one ↦
               rw (ne-eqb (r .kind) 3 (one .kind))
-              (greatest-has (λ x. x ≤ 128 * mostLoad * mostCost) (λ i. carries r o i * r .cost i) (r .n - 1)
+              (greatest-has (λ x. x ≤ 128 * mostLoad * mostCost) (linkTime r o) (r .n - 1)
               (λ i l. let h : i < r .n = omega (arith, ok .boards) in time-most (carries r o i) i h (carries-most i h)))
         ]

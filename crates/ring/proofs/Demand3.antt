@@ -1,6 +1,6 @@
 -- Demand 3, for every accepted ring of kinds 1, 2 and 3, over the definitions of specs/ alone: each statement under the sentence of
--- document 01 that it is.
-use mathlib.Core.Path.{_≡_}
+-- document 01 that it is, and of the tight link under that of document 02's order 3.
+use mathlib.Core.Path.{_≡_, sym, _∙_}
 use mathlib.Core.List.{List}
 use Prim.Native.Nat.{ℕ, suc, _+_, _/_, _≤_, _<_}
 use native.Mathlib.Omega.{arith}
@@ -11,12 +11,12 @@ use Rattle.ring.specs.Lists.{EachTwo}
 use Rattle.ring.specs.Boards.{Ring, Accepted, TwoWay}
 use Rattle.ring.specs.Schedule.{Send, Valid, sentBefore, receivedBy, loadAt, inFlight, finish}
 use Rattle.ring.specs.Bytes.{InOrder}
-use Rattle.ring.specs.Plan.{S, LeastAt, GreatestAt, R, offset, Waits, f, carries, startOf, plan, finishOf, moves}
+use Rattle.ring.specs.Plan.{S, LeastAt, GreatestAt, R, offset, Waits, f, carries, startOf, plan, linkTime, finishOf, moves, tight}
 use Rattle.ring.proofs.Level.{One, some-least, some-greatest}
 use Rattle.ring.proofs.Offset.{one-way, fits, f-one-way, idle-one-way, f-two-way, R-is}
 use Rattle.ring.proofs.Best.{valid, ends-at, least-finish}
 use Rattle.ring.proofs.Waiting.{waits, one-rule}
-use Rattle.ring.proofs.Moves.{as-many, sizes, ordered}
+use Rattle.ring.proofs.Moves.{as-many, sizes, ordered, tight-is, tight-most, tight-none, tight-finish}
 use Rattle.ring.proofs.Conserve.{never-below, conserved, load-at-end}
 use Rattle.ring.proofs.Bounds.{finish-most}
 
@@ -75,6 +75,24 @@ module _ (r : Ring) (ok : Accepted r) where
 
   pub moves-is : length (plan r (offset r)) ≡ moves r (offset r)
   moves-is = as-many r (offset r)
+
+  -- "The tight link is to be the lowest-numbered link with the greatest items × cost.": it is a link, none has more, each lower has less
+  pub tight-below : tight r (offset r) < r .n
+  tight-below = omega (arith, ok .boards, tight-is r (offset r) .place)
+
+  pub tight-greatest : (i : ℕ) → i < r .n → linkTime r (offset r) i ≤ linkTime r (offset r) (tight r (offset r))
+  tight-greatest = tight-most r (offset r)
+
+  pub tight-lowest : (i : ℕ) → i < tight r (offset r) → linkTime r (offset r) i < linkTime r (offset r) (tight r (offset r))
+  tight-lowest = tight-is r (offset r) .lowest
+
+  -- "it is link 0 where there are no moves"
+  pub tight-idle : moves r (offset r) ≡ 0 → tight r (offset r) ≡ 0
+  tight-idle = tight-none r (offset r) ok
+
+  -- in kinds 1 and 2 it holds the ring up: its items × cost are the finish
+  pub tight-holds : (TwoWay (r .kind) → ⊥) → linkTime r (offset r) (tight r (offset r)) ≡ finish r (plan r (offset r))
+  tight-holds one = tight-finish r (offset r) one ∙ sym finish-is
 
   -- "Records go by link upward, then by start upward, then by direction, forward first."
   pub in-order : EachTwo InOrder (plan r (offset r))

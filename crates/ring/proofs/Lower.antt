@@ -11,7 +11,7 @@ use Rattle.ring.specs.Numbers.{one-if, greatest}
 use Rattle.ring.specs.Lists.{EachTwo, count}
 use Rattle.ring.specs.Boards.{Ring, Accepted, TwoWay}
 use Rattle.ring.specs.Schedule.{Send, sender, receiver, Apart, Valid, finish}
-use Rattle.ring.specs.Plan.{R, ahead, behind, carries, surplusSize, rounds, finishOf}
+use Rattle.ring.specs.Plan.{R, ahead, behind, carries, surplusSize, rounds, linkTime, finishOf}
 use Rattle.ring.proofs.Tests.{le-lt}
 use Rattle.ring.proofs.Sums.{max-has, greatest-has}
 use Rattle.ring.proofs.Totals.{each-map, total-zero}
@@ -76,14 +76,14 @@ module _ (r : Ring) (o : ℕ) (ok : Accepted r) (σ : List Send) (v : Valid r σ
         let none = none-back r ok σ v (one .kind) in
         omega (arith, none-behind r o ok one i h, none-behind r o ok one b p, net-flow r σ v ok i h, net-flow r σ v ok b p, none i, none b)
 
-    by-links : finishOf r o ≤ greatest (λ i. carries r o i * r .cost i) (r .n - 1)
+    by-links : finishOf r o ≤ greatest (linkTime r o) (r .n - 1)
     unfolding finishOf
     by-links = rw (ne-eqb (r .kind) 3 (one .kind)) (omega arith)
 
     lower-one-way : finishOf r o ≤ finish r σ
     lower-one-way =
         le-trans by-links
-        (greatest-has (λ x. x ≤ finish r σ) (λ i. carries r o i * r .cost i) (r .n - 1)
+        (greatest-has (λ x. x ≤ finish r σ) (linkTime r o) (r .n - 1)
         (λ i l. le-trans (mul-le-mul-right (r .cost i) (none-fewer i (omega (arith, ok .boards)))) (along-room r σ v 0 i)))
 
   module _ (two : r .kind ≡ 3) where

@@ -1,17 +1,18 @@
 -- The sends of the plan: so many as there are moves, and in plan order; and the tight link.
-use mathlib.Core.Path.{_≡_, refl, _∙_}
+use mathlib.Core.Path.{_≡_, refl, ap, _∙_}
 use mathlib.Core.Logic.{inl, inr}
-use Prim.Native.Nat.{ℕ, _-_}
+use Prim.Native.Nat.{ℕ, _*_, _-_, _≤_, _<_}
 use native.Mathlib.Omega.{arith}
 use lib.IntN.{natAbs}
 use lib.ListN.{length}
+use borrow.Author.Tests.{ne-eqb}
 use Rattle.ring.specs.Numbers.{sum}
 use Rattle.ring.specs.Lists.{EachTwo}
-use Rattle.ring.specs.Boards.{Ring, Accepted}
+use Rattle.ring.specs.Boards.{Ring, Accepted, TwoWay}
 use Rattle.ring.specs.Bytes.{InOrder}
-use Rattle.ring.specs.Plan.{f, ahead, behind, carries, plan, moves, tight}
+use Rattle.ring.specs.Plan.{f, ahead, behind, carries, plan, linkTime, finishOf, moves, tight}
 use Rattle.ring.proofs.Tests.{le-lt}
-use Rattle.ring.proofs.Sums.{sum-eq, sum-ones, sum-term, Peak, peak-is}
+use Rattle.ring.proofs.Sums.{sum-eq, sum-ones, sum-term, le-greatest, Peak, peak-is}
 use Rattle.ring.proofs.Totals.{total-length}
 use Rattle.ring.proofs.Signed.{size}
 use Rattle.ring.proofs.Level.{Fits, one-sign}
@@ -33,15 +34,25 @@ module _ (r : Ring) (o : ℕ) where
       (λ i j k h l m. inr (refl, inl (omega (arith, timed r o ok fits .turns i j k h l m, ok .costs i h))))
       (λ i j a b l h lj lb. inl l)
 
-  -- the tight link is the lowest-numbered link carrying the most items, link 0 where there are no moves
-  pub tight-is : Peak (carries r o) (r .n - 1) (tight r o)
+  -- the tight link is the lowest-numbered link with the greatest items × cost, link 0 where there are no moves
+  pub tight-is : Peak (linkTime r o) (r .n - 1) (tight r o)
   unfolding tight
-  tight-is = peak-is (carries r o) (r .n - 1)
+  tight-is = peak-is (linkTime r o) (r .n - 1)
+
+  pub tight-most : (i : ℕ) → i < r .n → linkTime r o i ≤ linkTime r o (tight r o)
+  tight-most i h = omega (arith, tight-is .most, le-greatest (linkTime r o) (r .n - 1) i (omega arith))
 
   pub tight-none : Accepted r → moves r o ≡ 0 → tight r o ≡ 0
   unfolding moves
   tight-none ok e =
       elim (le-lt (tight r o) 0) [
         | inl h ↦ omega arith
-        | inr h ↦ absurd (omega (arith, tight-is .lowest 0 h, sum-term (carries r o) (tight r o) (r .n) (omega (arith, ok .boards, tight-is .place))))
+        | inr h ↦
+            let c : carries r o (tight r o) ≡ 0 = omega (arith, sum-term (carries r o) (tight r o) (r .n) (omega (arith, ok .boards, tight-is .place))) in
+            absurd (omega (arith, tight-is .lowest 0 h, ap (λ (k : ℕ). k * r .cost (tight r o)) c))
       ]
+
+  -- one way it is the finish
+  pub tight-finish : (TwoWay (r .kind) → ⊥) → linkTime r o (tight r o) ≡ finishOf r o
+  unfolding finishOf
+  tight-finish one = rw (ne-eqb (r .kind) 3 one) (tight-is .most)

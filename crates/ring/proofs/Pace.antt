@@ -6,7 +6,7 @@ use native.Mathlib.Nat.{le-refl, mul-le-mul-left, mul-le-mul-right}
 use native.Mathlib.Omega.{arith}
 use borrow.Author.Tests.{ne-eqb}
 use Rattle.ring.specs.Boards.{Ring, Accepted, prev}
-use Rattle.ring.specs.Plan.{ahead, carries, endBack, endOf, finishOf}
+use Rattle.ring.specs.Plan.{ahead, carries, endBack, endOf, linkTime, finishOf}
 use Rattle.ring.proofs.Tests.{le-lt}
 use Rattle.ring.proofs.Sums.{le-greatest}
 use Rattle.ring.proofs.Neighbours.{prev-below}
@@ -69,4 +69,4 @@ module _ (r : Ring) (o : ℕ) (ok : Accepted r) (one : One r o) where
   in-time i j h k =
       let v = paced (r .n) i j h k in
       let a : r .cost (v .l) * v .w ≤ r .cost (v .l) * carries r o (v .l) = mul-le-mul-left (r .cost (v .l)) (omega (arith, v .fits)) in
-      rw (ne-eqb (r .kind) 3 (one .kind)) (omega (arith, v .by, le-greatest (λ k. carries r o k * r .cost k) (r .n - 1) (v .l) (omega (arith, v .below))))
+      rw (ne-eqb (r .kind) 3 (one .kind)) (omega (arith, v .by, le-greatest (linkTime r o) (r .n - 1) (v .l) (omega (arith, v .below))))

@@ -132,14 +132,18 @@ module _ (r : Ring) where
     abbrev pub plan : List Send
     plan = sendsBelow (r .n)
 
+    -- link i's items × cost
+    abbrev pub linkTime : ℕ → ℕ
+    linkTime i = carries o i * r .cost i
+
     -- the finish: T × c in kind 3, else the greatest f(i) × cost(i)
     unfoldable pub finishOf : ℕ
-    finishOf = pick (eqb (r .kind) 3) (rounds * r .cost 0) (greatest (λ i. carries o i * r .cost i) (r .n - 1))
+    finishOf = pick (eqb (r .kind) 3) (rounds * r .cost 0) (greatest linkTime (r .n - 1))
 
     -- the sum of |f(i)|
     unfoldable pub moves : ℕ
     moves = sum (carries o) (r .n)
 
-    -- the lowest-numbered link carrying the most items, link 0 where there are no moves
+    -- document 02, order 3: the lowest-numbered link with the greatest items × cost; link 0 where there are no moves
     unfoldable pub tight : ℕ
-    tight = peak (carries o) (r .n - 1)
+    tight = peak linkTime (r .n - 1)

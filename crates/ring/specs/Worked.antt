@@ -94,7 +94,7 @@ worked =
     record {
       ring = ringIn 2 4 (5 ∷ 1 ∷ 1 ∷ 2 ∷ []) (pos 3 ∷ pos 0 ∷ minus 2 ∷ minus 1 ∷ []) (2 ∷ 3 ∷ 1 ∷ 4 ∷ []);
       says =
-          items (ints (3 ∷ 3 ∷ 1 ∷ 0 ∷ [])) ∷ ending 9 ∷ sent 7 ∷ tightest 0
+          items (ints (3 ∷ 3 ∷ 1 ∷ 0 ∷ [])) ∷ ending 9 ∷ sent 7 ∷ tightest 1
           ∷ forward 0 (0 ∷ 2 ∷ 4 ∷ []) ∷ forward 1 (0 ∷ 3 ∷ 6 ∷ []) ∷ forward 2 (0 ∷ []) ∷ forward 3 []
           ∷ loads 3 (3 ∷ 1 ∷ 1 ∷ 3 ∷ []) ∷ flying 3 1
           ∷ columns 0 (0 ∷ 1 ∷ []) ∷ columns 1 (2 ∷ []) ∷ columns 2 (3 ∷ 4 ∷ 5 ∷ []) ∷ columns 3 (6 ∷ 7 ∷ 8 ∷ [])

@@ -49,9 +49,6 @@ mul-board c = search needs
 element-set-from-board : tie.Need-element-set-from-board Inv-loop μ-loop
 element-set-from-board c = search needs
 
-tighter-requires : tie.Need-tighter-requires Inv-loop μ-loop
-tighter-requires c κs = search needs
-
 wrapping-add-u32-requires : tie.Need-wrapping-add-u32-requires Inv-loop μ-loop
 wrapping-add-u32-requires c κs = search needs
 
@@ -89,7 +86,6 @@ ring-of-spec =
     board-of-requires-2
     mul-board
     element-set-from-board
-    tighter-requires
     wrapping-add-u32-requires
     most-requires
     add-i

@@ -9,7 +9,7 @@ use lib.Dec.{ltb}
 use Rattle.ring.specs.Numbers.{pick, sum, sumℤ}
 use Rattle.ring.specs.Lists.{each}
 use Rattle.ring.specs.Boards.{mostLoad}
-use Rattle.planner.specs.Outline.{between, before, carriesBy}
+use Rattle.planner.specs.Outline.{between, before, carriesBy, timeBy}
 use Rattle.planner.proofs.SumLevels.{may-rise, rises}
 use Rattle.planner.proofs.SumWalk.{highest, summit, highest-is, summit-is}
 use borrow.Author.Needs.{needs}
@@ -17,21 +17,20 @@ use Rattle.planner.proofs.sums.tally_of.Statement.{statement}
 use Rattle.planner.proofs.sums.tally_of.Tie as tie
 
 abbrev Inv-loop : tie.InvT-loop
-Inv-loop n surpluses costs total offset level₀ moves₀ tight₀ most₀ slowest₀ i₀ level moves tight most slowest i =
+Inv-loop n surpluses costs total offset level₀ tally₀ i₀ level tally i =
     (i ≤ n)
     × (level ≡ before total surpluses i)
-    × (moves ≡ sum (carriesBy total surpluses offset) i)
-    × (moves ≤ 128 * mostLoad * i)
-    × (tight ≡ summit (carriesBy total surpluses offset) i)
-    × (most ≡ highest (carriesBy total surpluses offset) i)
-    × (slowest .0 ≡ highest (λ k. carriesBy total surpluses offset k * each costs k) i)
+    × (tally .moves .0 ≡ sum (carriesBy total surpluses offset) i)
+    × (tally .moves .0 ≤ 128 * mostLoad * i)
+    × (tally .tight ≡ summit (timeBy total surpluses offset costs) i)
+    × (tally .slowest .0 ≡ highest (timeBy total surpluses offset costs) i)
 
 abbrev μ-loop : tie.MeasureT-loop
-μ-loop n surpluses costs total offset level₀ moves₀ tight₀ most₀ slowest₀ i₀ level moves tight most slowest i = n - i
+μ-loop n surpluses costs total offset level₀ tally₀ i₀ level tally i = n - i
 
 loop-holds : tie.Need-loop-holds Inv-loop μ-loop
 unfolding sumℤ sum highest summit
-loop-holds c = (omega arith, omega arith, refl, omega arith, refl, refl, refl)
+loop-holds c = (omega arith, omega arith, refl, omega arith, refl, refl)
 
 mul-surplus : tie.Need-mul-surplus Inv-loop μ-loop
 mul-surplus c = search needs
@@ -59,15 +58,6 @@ at c =
 apart-requires : tie.Need-apart-requires Inv-loop μ-loop
 apart-requires c κs = search needs
 
-add-moves : tie.Need-add-moves Inv-loop μ-loop
-add-moves c = omega (arith, at c .1)
-
-heavier-requires : tie.Need-heavier-requires Inv-loop μ-loop
-heavier-requires c κs = search needs
-
-greater-requires : tie.Need-greater-requires Inv-loop μ-loop
-greater-requires c κs = search needs
-
 mul-link-time : tie.Need-mul-link-time Inv-loop μ-loop
 mul-link-time c = search needs
 
@@ -77,8 +67,8 @@ shared-slice-read-link-time c = search needs
 link-time-requires : tie.Need-link-time-requires Inv-loop μ-loop
 link-time-requires c κs = search needs
 
-later-requires : tie.Need-later-requires Inv-loop μ-loop
-later-requires c κs = search needs
+with-link-requires : tie.Need-with-link-requires Inv-loop μ-loop
+with-link-requires c κs = omega (arith, at (c .before .before) .1)
 
 add-i : tie.Need-add-i Inv-loop μ-loop
 add-i c = search needs
@@ -89,19 +79,19 @@ loop-less c = search needs
 loop-again : tie.Need-loop-again Inv-loop μ-loop
 unfolding sum highest summit
 loop-again c =
-    let t = c .before .before .before .before .before in
+    let t = c .before .before .before in
     let l = t .before .before .before .before in
     let i = l .loop .i in
     let is = at t .0 in
     let cost = each (now (l .before .before .args .costs)) i in
-    let ticks = c .before .link-time .ensures ∙ mul-comm cost (t .apart .result) ∙ ap (λ (x : ℕ). x * cost) is in (
+    let ticks = c .before .link-time .ensures ∙ mul-comm cost (t .apart .result) ∙ ap (λ (x : ℕ). x * cost) is in
+    let with = c .with-link .ensures in (
       omega arith,
       rw add-one (risen-is (t .before)),
-      rw (add-one, sum) (λ k. l .loop .inv .2 k + is k),
-      omega (arith, at t .1),
-      rw (add-one, summit) (c .before .before .before .before .heavier .ensures ∙ (λ k. pick (ltb (l .loop .inv .5 k) (is k)) i (l .loop .inv .4 k))),
-      rw (add-one, highest) (c .before .before .before .greater .ensures ∙ (λ k. max (l .loop .inv .5 k) (is k))),
-      rw (add-one, highest) (c .later .ensures ∙ (λ k. max (l .loop .inv .6 k) (ticks k))),
+      rw (add-one, sum) (with .0 ∙ (λ k. l .loop .inv .2 k + is k)),
+      omega (arith, with .0, at t .1),
+      rw (add-one, summit) (with .1 .0 ∙ (λ k. pick (ltb (l .loop .inv .5 k) (ticks k)) i (l .loop .inv .4 k))),
+      rw (add-one, highest) (with .1 .1 ∙ (λ k. max (l .loop .inv .5 k) (ticks k))),
     )
 
 returns : tie.Need-returns Inv-loop μ-loop
@@ -109,12 +99,11 @@ returns c =
     let l = c .before in
     let s = l .before .before in
     let a = s .args in
-    let g = carriesBy (a .total) (now (a .surpluses)) (a .offset) in
-    let h : ℕ → ℕ = λ k. carriesBy (a .total) (now (a .surpluses)) (a .offset) k * each (now (a .costs)) k in
+    let g = timeBy (a .total) (now (a .surpluses)) (a .offset) (now (a .costs)) in
     let e : l .loop .i ≡ a .n = omega arith in
     let inv = rw e at (l .loop .inv) in
     let tight = inv .4 ∙ summit-is g (a .n) (s .pre .0 .0) in
-    let slowest = inv .6 ∙ highest-is h (a .n) (s .pre .0 .0) in
+    let slowest = inv .5 ∙ highest-is g (a .n) (s .pre .0 .0) in
     λ t. record { moves = record { 0 = inv .2 t }; tight = tight t; slowest = record { 0 = slowest t } }
 
 pub tally-of-spec : {M : Type 1} → statement M
@@ -128,13 +117,10 @@ tally-of-spec =
     shared-slice-copy-out-surplus
     risen-requires
     apart-requires
-    add-moves
-    heavier-requires
-    greater-requires
     mul-link-time
     shared-slice-read-link-time
     link-time-requires
-    later-requires
+    with-link-requires
     add-i
     loop-less
     loop-again
