@@ -1,5 +1,5 @@
-// Runs the rings that document 01 works by hand: each one's answer and records, the plan's buffer exact and a byte short, the loads at
-// telling ticks, and the columns after the plan. Then the columns of a refused job and of a ring with more than 65,536 of them, and the loads
+// Runs the rings that document 01 works by hand, and three for the tight link: each one's answer and records, the plan's buffer exact and a byte
+// short, the loads at telling ticks, and the columns after the plan. Then the columns of a refused job and of a ring with more than 65,536 of them, and the loads
 // of a ring in which a board's load passes 65,535 on the way.
 mod lists_after;
 
@@ -319,9 +319,39 @@ fn show_d_to_h() {
     show(b"H", 3, &[4, 1, 1], &[3, -2, -1], &[1, 1, 1], &[0, 1, 2, 3]);
 }
 
+// Ring A with link 0 upgraded, which ends as it did, and with link 1 upgraded, which ends sooner; and a ring whose link 0 takes as long for 2 items as
+// link 1 does for 3.
+fn show_tight() {
+    show(
+        b"A, link 0 upgraded",
+        2,
+        &[5, 1, 1, 2],
+        &[3, 0, -2, -1],
+        &[1, 3, 1, 4],
+        &[3, 9],
+    );
+    show(
+        b"A, link 1 upgraded",
+        2,
+        &[5, 1, 1, 2],
+        &[3, 0, -2, -1],
+        &[2, 2, 1, 4],
+        &[3, 6],
+    );
+    show(
+        b"two as tight",
+        2,
+        &[3, 2, 1],
+        &[2, 1, -3],
+        &[3, 2, 9],
+        &[3, 6],
+    );
+}
+
 fn main() {
     show_a_to_c();
     show_d_to_h();
+    show_tight();
     lists_after::show_cut();
     lists_after::show_many();
     show_wide();

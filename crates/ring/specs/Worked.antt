@@ -1,5 +1,6 @@
 -- Document 01, "Rings worked by hand": the rings marked *, each with what the document says of it, and the test that it is so.
--- With the rings A, B, C2, F, G and H the columns that document 02's order 1 asks for, worked by hand too.
+-- With the rings A, B, C2, F, G and H the columns that document 02's order 1 asks for, worked by hand too; the tight links by its order 3, and after
+-- the document's rings three of our own for it.
 use mathlib.Core.Bool.{Bool, true, false}
 use mathlib.Core.List.{List, [], _∷_, map}
 use Prim.Native.Nat.{ℕ, zero, suc}
@@ -88,7 +89,8 @@ minus (suc k) = negsuc k
 abbrev pub ints : List ℕ → List ℤ
 ints xs = map pos xs
 
--- rings A, B, C, C2, D, E, F, G, H
+-- rings A, B, C, C2, D, E, F, G, H; A with link 0 upgraded, which ends as it did, and with link 1 upgraded; a ring in which the link with the fewer
+-- items takes as long as the other
 abbrev pub worked : List Row
 worked =
     record {
@@ -103,7 +105,7 @@ worked =
     ∷ record {
       ring = ringIn 3 4 (6 ∷ 1 ∷ 1 ∷ 1 ∷ []) (pos 4 ∷ minus 2 ∷ minus 1 ∷ minus 1 ∷ []) (5 ∷ 5 ∷ 5 ∷ 5 ∷ []);
       says =
-          items (pos 2 ∷ pos 0 ∷ minus 1 ∷ minus 2 ∷ []) ∷ T 4 ∷ ending 20
+          items (pos 2 ∷ pos 0 ∷ minus 1 ∷ minus 2 ∷ []) ∷ T 4 ∷ ending 20 ∷ tightest 0
           ∷ forward 0 (0 ∷ 5 ∷ []) ∷ forward 1 [] ∷ back 2 (15 ∷ []) ∷ back 3 (10 ∷ 15 ∷ [])
           ∷ columns 0 (2 ∷ 3 ∷ []) ∷ columns 1 (4 ∷ 5 ∷ 6 ∷ []) ∷ columns 2 (7 ∷ 8 ∷ []) ∷ columns 3 (0 ∷ 1 ∷ [])
           ∷ [];
@@ -114,15 +116,15 @@ worked =
     }
     ∷ record {
       ring = ringIn 1 2 (1 ∷ 2 ∷ []) (minus 1 ∷ pos 1 ∷ []) (7 ∷ 7 ∷ []);
-      says = items (ints (0 ∷ 1 ∷ [])) ∷ ending 7 ∷ columns 0 (2 ∷ 0 ∷ []) ∷ columns 1 (1 ∷ []) ∷ [];
+      says = items (ints (0 ∷ 1 ∷ [])) ∷ ending 7 ∷ tightest 1 ∷ columns 0 (2 ∷ 0 ∷ []) ∷ columns 1 (1 ∷ []) ∷ [];
     }
     ∷ record {
       ring = ringIn 2 2 (2 ∷ 1 ∷ []) (pos 1 ∷ minus 1 ∷ []) (1 ∷ 100 ∷ []);
-      says = ending 1 ∷ [];
+      says = ending 1 ∷ tightest 0 ∷ [];
     }
     ∷ record {
       ring = ringIn 1 3 (1 ∷ 1 ∷ 1 ∷ []) (pos 0 ∷ pos 0 ∷ pos 0 ∷ []) (1 ∷ 1 ∷ 1 ∷ []);
-      says = ending 0 ∷ bytes 15 ∷ [];
+      says = ending 0 ∷ bytes 15 ∷ tightest 0 ∷ [];
     }
     ∷ record {
       ring = ringIn 1 3 (2 ∷ 1 ∷ 1 ∷ []) (pos 1 ∷ pos 0 ∷ minus 1 ∷ []) (1 ∷ 1 ∷ 1 ∷ []);
@@ -133,7 +135,7 @@ worked =
           ringIn 3 6 (3 ∷ 3 ∷ 3 ∷ 1 ∷ 1 ∷ 1 ∷ []) (pos 2 ∷ pos 2 ∷ pos 2 ∷ minus 2 ∷ minus 2 ∷ minus 2 ∷ [])
           (1 ∷ 1 ∷ 1 ∷ 1 ∷ 1 ∷ 1 ∷ []);
       says =
-          items (minus 1 ∷ pos 1 ∷ pos 3 ∷ pos 1 ∷ minus 1 ∷ minus 3 ∷ []) ∷ ending 3
+          items (minus 1 ∷ pos 1 ∷ pos 3 ∷ pos 1 ∷ minus 1 ∷ minus 3 ∷ []) ∷ ending 3 ∷ tightest 2
           ∷ columns 0 (3 ∷ []) ∷ columns 1 (4 ∷ []) ∷ columns 2 (5 ∷ [])
           ∷ columns 3 (6 ∷ 7 ∷ 8 ∷ []) ∷ columns 4 (9 ∷ 10 ∷ 11 ∷ []) ∷ columns 5 (0 ∷ 1 ∷ 2 ∷ [])
           ∷ [];
@@ -141,5 +143,17 @@ worked =
     ∷ record {
       ring = ringIn 3 3 (4 ∷ 1 ∷ 1 ∷ []) (pos 3 ∷ minus 2 ∷ minus 1 ∷ []) (1 ∷ 1 ∷ 1 ∷ []);
       says = items (pos 2 ∷ pos 0 ∷ minus 1 ∷ []) ∷ ending 3 ∷ columns 0 (1 ∷ []) ∷ columns 1 (2 ∷ 3 ∷ 4 ∷ []) ∷ columns 2 (5 ∷ 0 ∷ []) ∷ [];
+    }
+    ∷ record {
+      ring = ringIn 2 4 (5 ∷ 1 ∷ 1 ∷ 2 ∷ []) (pos 3 ∷ pos 0 ∷ minus 2 ∷ minus 1 ∷ []) (1 ∷ 3 ∷ 1 ∷ 4 ∷ []);
+      says = ending 9 ∷ tightest 1 ∷ [];
+    }
+    ∷ record {
+      ring = ringIn 2 4 (5 ∷ 1 ∷ 1 ∷ 2 ∷ []) (pos 3 ∷ pos 0 ∷ minus 2 ∷ minus 1 ∷ []) (2 ∷ 2 ∷ 1 ∷ 4 ∷ []);
+      says = ending 6 ∷ tightest 0 ∷ [];
+    }
+    ∷ record {
+      ring = ringIn 2 3 (3 ∷ 2 ∷ 1 ∷ []) (pos 2 ∷ pos 1 ∷ minus 3 ∷ []) (3 ∷ 2 ∷ 9 ∷ []);
+      says = items (ints (2 ∷ 3 ∷ 0 ∷ [])) ∷ ending 6 ∷ tightest 0 ∷ [];
     }
     ∷ []
