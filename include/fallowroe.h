@@ -49,8 +49,9 @@ uint64_t fallowroe_check(const uint8_t *job, size_t job_length, uint64_t values[
 uint64_t fallowroe_write(uint8_t kind, const uint16_t *loads, size_t loads_length, const int16_t *surpluses, size_t surpluses_length,
                          const uint16_t *costs, size_t costs_length, uint8_t *job, size_t job_room, uint64_t values[3]);
 
-/* Writes the plan of a job at the front of `plan`. Values: finish, moves, tight link. Refusals 1 to 13. It takes about 1 KiB of stack
- * on x86-64; scripts/stack measures it, and the other functions' stack. */
+/* Writes the plan of a job at the front of `plan`. Values: finish, moves, tight link. The tight link is the lowest-numbered one with the greatest
+ * items * cost, and link 0 where there are no moves: in kinds 1 and 2 it holds the ring up, and its items * cost is the finish. Refusals 1 to 13. It takes
+ * about 1 KiB of stack on x86-64; scripts/stack measures it, and the other functions' stack. */
 uint64_t fallowroe_plan(const uint8_t *job, size_t job_length, uint8_t *plan, size_t plan_room, uint64_t values[3]);
 
 /* As fallowroe_plan, and the load of each of the n boards at a tick in the first n places of `list`.
