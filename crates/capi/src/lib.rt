@@ -1,5 +1,7 @@
 // For callers in other languages: the reader's check, the job writer, the planner, the loads query and the columns call, on numbers and slices.
 // include/fallowroe.h declares the five functions to C.
+#![tactic(auto)]
+
 ghost use Rattle.std.specs.Prelude.{◌≡◌, length, [], ◌∷◌};
 ghost use Rattle.hop.specs.Answers.{refusal, of_check, of_written};
 ghost use Rattle.hop.specs.Read.{check_of, job_of};

@@ -1,6 +1,8 @@
 // Runs the rings that document 01 works by hand, and three for the tight link: each one's answer and records, the plan's buffer exact and a byte
 // short, the loads at telling ticks, and the columns after the plan. Then the columns of a refused job and of a ring with more than 65,536 of them, and the loads
 // of a ring in which a board's load passes 65,535 on the way.
+#![tactic(auto)]
+
 mod lists_after;
 
 ghost use Rattle.std.specs.Prelude.{◌≤◌};

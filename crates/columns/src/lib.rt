@@ -1,4 +1,6 @@
 // The columns call: the plan of a job in a lent buffer, and where its columns are after the plan in a lent list.
+#![tactic(auto)]
+
 ghost use Rattle.std.specs.Prelude.{◌≡◌, ◌++◌, ◌+◌, ◌<◌, ◌≤◌, length, drop};
 ghost use Rattle.ring.specs.Lists.{up_to};
 ghost use Rattle.ring.specs.Columns.{stretch};

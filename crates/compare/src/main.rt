@@ -1,5 +1,7 @@
 // Plans many rings twice, by the planner and by the second planner, and compares answers and bytes; judges the planner's plans; and plays them
 // over the columns.
+#![tactic(auto)]
+
 mod damage;
 mod judge;
 mod listing;

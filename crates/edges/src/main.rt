@@ -1,4 +1,6 @@
 // The edges of document 01, asked of the reader, of its check alone and of the writer: one line for each.
+#![tactic(auto)]
+
 ghost use Rattle.std.specs.Prelude.{◌≤◌, ◌<◌};
 
 use hop::{Check, Numbers, Written};

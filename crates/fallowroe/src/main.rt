@@ -1,4 +1,6 @@
 // The program: a job on standard input, the text of its plan on standard output.
+#![tactic(auto)]
+
 use libc::{STDIN_FILENO, STDOUT_FILENO};
 
 fn main() {

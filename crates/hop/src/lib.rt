@@ -1,4 +1,6 @@
 // The job reader and writer: a job's bytes, the check of a ring's numbers, and what both answer.
+#![tactic(auto)]
+
 ghost use Rattle.std.specs.Prelude.{◌≡◌};
 ghost use Rattle.hop.specs.Answers.{number_in, board_in, of_check};
 ghost use Rattle.hop.specs.Read.{job_length};
@@ -22,7 +24,7 @@ pub const FEWEST_BOARDS: usize = 2;
 pub const MOST_BOARDS: usize = 128;
 
 // What a check answers: a ring of a kind with n boards, or the refusal's number and board.
-#[derive(Drop)]
+#[derive(Clone, Copy)]
 pub enum Check {
     Ring { kind: u8, n: u8 },
     Refused { number: u8, board: u8 },
@@ -58,7 +60,7 @@ pub struct Job {
 }
 
 // The numbers of one board.
-#[derive(Drop)]
+#[derive(Clone, Copy)]
 pub struct Numbers {
     pub load: u16,
     pub surplus: i16,
@@ -66,7 +68,7 @@ pub struct Numbers {
 }
 
 // What the job writer answers: how many bytes it wrote, or the refusal's number and board.
-#[derive(Drop)]
+#[derive(Clone, Copy)]
 pub enum Written {
     Bytes(usize),
     Refused { number: u8, board: u8 },

@@ -39,7 +39,7 @@ pub(crate) fn shape(kind: u8, n: usize) -> Check
 
 // What a walk over a ring's boards has seen: the cost of board 0, the first board whose cost differs from it (0 where none does), the sum of the
 // surpluses, and the last board's refusal of 7 to 9 (0 where it has none).
-#[derive(Drop)]
+#[derive(Clone, Copy)]
 pub(crate) struct Seen {
     pub(crate) first: u16,
     pub(crate) unlike: u8,

@@ -1,4 +1,6 @@
 // Calls that plan a job and fill a lent list beside the plan: their refusals, and their plans.
+#![tactic(auto)]
+
 ghost use Rattle.std.specs.Prelude.{◌≡◌, true, false, length};
 ghost use Rattle.hop.specs.Read.{job_of};
 ghost use Rattle.planner.specs.Answer.{plan_answer, plan_memory};

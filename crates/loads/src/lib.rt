@@ -1,4 +1,6 @@
 // The loads query: the plan of a job in a lent buffer, and the load of each board at a tick in a lent list.
+#![tactic(auto)]
+
 ghost use Rattle.std.specs.Prelude.{◌≡◌, ℕ, ◌+◌, ◌<◌, ◌≤◌, eqb, length, get_or};
 ghost use Rattle.ring.specs.Numbers.{pick, one_if};
 ghost use Rattle.ring.specs.Lists.{fill};

@@ -1,4 +1,6 @@
 // The planner: from a job's bytes to a plan's bytes in a lent buffer.
+#![tactic(auto)]
+
 ghost use Rattle.std.specs.Prelude.{◌≡◌, length};
 ghost use Rattle.ring.specs.Boards.{ring_in};
 ghost use Rattle.hop.specs.Answers.{number_in, board_in, of_check};

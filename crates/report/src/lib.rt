@@ -1,4 +1,6 @@
 // What the program prints of a job, as bytes in a lent buffer.
+#![tactic(auto)]
+
 ghost use Rattle.std.specs.Prelude.{◌≡◌, min, length};
 ghost use Rattle.hop.specs.Read.{job_of};
 ghost use Rattle.planner.specs.Answer.{plan_memory};

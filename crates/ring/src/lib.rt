@@ -1,4 +1,6 @@
 // The leaves that all else stands on: items and ticks, the time of a link, the end of a send, four bytes, and a board within its limits.
+#![tactic(auto)]
+
 ghost use Rattle.std.specs.Prelude.{◌≡◌, ◌+◌, ◌*◌};
 ghost use Rattle.ring.specs.Limits.{board_of, fault_of};
 

@@ -1,6 +1,8 @@
 // What the program prints, asked of the function that it prints by: inputs about the limit of 776 bytes, each refusal that the program can
 // give, and plans about the room of 10,920 sends. It can't give 12, which no ring within the limits is given (never-twelve, in the planner's
 // proofs), nor 14, since it asks for no loads.
+#![tactic(auto)]
+
 ghost use Rattle.std.specs.Prelude.{◌≤◌, ◌<◌, length};
 
 use libc::STDOUT_FILENO;
