@@ -20,7 +20,7 @@ use ring::{Items, Ticks};
 pub use turning::turn_of;
 
 // A plan's numbers, or why there is none.
-#[derive(Drop)]
+#[derive(Clone, Copy)]
 pub enum Planned {
     Plan { finish: u32, moves: u32, tight: u8 },
     Refused { number: u8, board: u8 },
@@ -34,7 +34,7 @@ pub struct Traffic {
 }
 
 // How many columns the boards have in all, and the one that board 0 begins with after the plan.
-#[derive(Drop)]
+#[derive(Clone, Copy)]
 pub struct Turn {
     pub columns: u32,
     pub first: u32,

@@ -14,7 +14,7 @@ use crate::sums::{Outline, apart, risen};
 use ring::{Items, Ticks, link_time};
 
 // A link, and the byte of the plan at which its records begin.
-#[derive(Drop)]
+#[derive(Clone, Copy)]
 struct Place {
     link: usize,
     at: usize,
@@ -22,7 +22,7 @@ struct Place {
 
 // What the sends of a one-way link wait for: past so many of its board's own load, the link before, whose records begin at `from` and whose items
 // take `cost` ticks.
-#[derive(Drop)]
+#[derive(Clone, Copy)]
 struct Feed {
     from: usize,
     load: usize,

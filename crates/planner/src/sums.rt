@@ -9,7 +9,7 @@ use ring::{Items, Ticks};
 
 // The numbers of a plan. `total` is the level of the last link, from which the others are raised by the surpluses; link i carries the difference
 // of its level and the offset, forward where the level is more, back where it is less. `rounds` is T in kind 3.
-#[derive(Drop)]
+#[derive(Clone, Copy)]
 pub(crate) struct Outline {
     pub(crate) total: u32,
     pub(crate) offset: u32,
@@ -20,14 +20,14 @@ pub(crate) struct Outline {
 }
 
 // The least and the greatest level.
-#[derive(Drop)]
+#[derive(Clone, Copy)]
 struct Span {
     low: u32,
     high: u32,
 }
 
 // What the links carry together, the tight link, and how long that one takes for its items: none takes longer.
-#[derive(Drop)]
+#[derive(Clone, Copy)]
 struct Tally {
     moves: Items,
     tight: u8,

@@ -5,10 +5,10 @@ ghost use Rattle.std.specs.Prelude.{◌≡◌, ◌+◌, ◌*◌};
 ghost use Rattle.ring.specs.Limits.{board_of, fault_of};
 
 // Items are counted in items and time in ticks.
-#[derive(Drop)]
+#[derive(Clone, Copy)]
 pub struct Items(pub u32);
 
-#[derive(Drop)]
+#[derive(Clone, Copy)]
 pub struct Ticks(pub u64);
 
 // The ticks that a link of this cost takes for so many items, one after the other: the only place that multiplies the two.
