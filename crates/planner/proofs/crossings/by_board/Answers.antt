@@ -1,8 +1,7 @@
 -- `crossings::by_board`: each board's numbers, one after the other. Assumes nothing.
-use Rattle.std.proofs.Common.{◌≡◌, refl, ◌∙◌, ◌+◌, ◌-◌, set, add-one, arith, rules, FitsSigned, w16}
+use Rattle.std.proofs.Common.{refl, ◌∙◌, ◌+◌, ◌-◌, set, add-one, arith, rules, FitsSigned, w16}
 use Rattle.ring.specs.Numbers.{sum_ℤ}
 use Rattle.ring.specs.Lists.{each_ℤ, fill}
-use Rattle.planner.specs.Outline.{before, crossings}
 use Rattle.planner.proofs.SumLevels.{may_rise, rises}
 use Rattle.planner.proofs.crossings.by_board.Goals as goal
 
