@@ -1,5 +1,5 @@
 -- `links::idle_of`: the walk comes to a link that carries nothing, and its records begin where those so far end. Assumes nothing.
-use Rattle.std.proofs.Common.{◌≡◌, ℕ, suc, ◌+◌, ◌*◌, ◌-◌, ◌≤◌, ◌<◌, refl, ◌∙◌, add-one, inl, inr, rules, arith}
+use Rattle.std.proofs.Common.{◌≡◌, suc, ◌+◌, ◌*◌, ◌-◌, ◌≤◌, ◌<◌, refl, ◌∙◌, add-one, inl, inr, rules, arith}
 use Rattle.ring.specs.Numbers.{sum, sum_ℤ}
 use Rattle.ring.proofs.Tests.{le_lt}
 use Rattle.planner.specs.Outline.{before, carries_by}

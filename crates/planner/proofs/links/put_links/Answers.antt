@@ -3,7 +3,7 @@
 use Rattle.std.proofs.Common.{◌≡◌, ℕ, suc, ◌+◌, ◌-◌, ◌≤◌, ◌<◌, ℤ, pos, nat_abs, ◌+ℤ◌, w16, FitsSigned, to_z, of_z, length, sym, ap, subst, ◌∙◌, rules, arith}
 use Rattle.ring.specs.Boards.{Ring, ring_in, next}
 use Rattle.ring.specs.Lists.{each_ℤ}
-use Rattle.ring.specs.Plan.{offset, carries, finish_of}
+use Rattle.ring.specs.Plan.{offset, carries}
 use Rattle.ring.proofs.Level.{One}
 use Rattle.ring.proofs.Neighbours.{next_below}
 use Rattle.ring.proofs.Bounds.{carries_most, items_most}

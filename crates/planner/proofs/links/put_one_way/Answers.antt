@@ -1,5 +1,5 @@
 -- `links::put_one_way`: one send more starts when it should. Assumes nothing.
-use Rattle.std.proofs.Common.{◌≡◌, List, ℕ, ◌+◌, ◌*◌, ◌-◌, ◌≤◌, ◌++◌, max, length, take, drop, refl, ap, ◌∙◌, length-take, length-drop, add-one, arith}
+use Rattle.std.proofs.Common.{◌≡◌, List, ℕ, ◌+◌, ◌*◌, ◌-◌, ◌≤◌, ◌++◌, max, length, take, drop, refl, ap, ◌∙◌, add-one, arith}
 use borrow.Rule.Slice.PartMut.{mid_of}
 use borrow.Author.Tests.{lt-ltb}
 use Rattle.ring.specs.Lists.{joined}
@@ -7,7 +7,7 @@ use Rattle.ring.specs.Bytes.{send_bytes}
 use Rattle.planner.specs.Links.{link_bytes, arrives_in, start_fed}
 use Rattle.planner.proofs.Bytes.{send_long, link_long}
 use Rattle.planner.proofs.Grow.{begun, put_in}
-use Rattle.planner.proofs.Feeding.{arrives_same, free_at, start_is}
+use Rattle.planner.proofs.Feeding.{arrives_same, start_is}
 use Rattle.planner.proofs.links.put_one_way.Goals as goal
 use Rattle.planner.proofs.links.put_one_way.Goals.{In-loop-x, After-later-start}
 
@@ -28,8 +28,8 @@ start c =
     let a = c.args in
     let l = c.loop-x in
     let arrives : c.arrival.result.0 ≡ arrives_in a.buf.now a.feed l.x =
-        c.arrival.ensures.0
-        ∙ arrives_same a.buf.now a.here a.count l.x a.feed c.requires c.loop-x-test.true (link_bytes a.here.link 0 (start_fed (arrives_in a.buf.now a.feed) a.cost) l.x) l.buf (a.here.at + 6 * l.x) refl l.invariant.sends in
+    c.arrival.ensures.0
+    ∙ arrives_same a.buf.now a.here a.count l.x a.feed c.requires c.loop-x-test.true (link_bytes a.here.link 0 (start_fed (arrives_in a.buf.now a.feed) a.cost) l.x) l.buf (a.here.at + 6 * l.x) refl l.invariant.sends in
     c.later-start.ensures ∙ (λ t. max (l.invariant.free t) (arrives t)) ∙ start_is (arrives_in a.buf.now a.feed) a.cost l.x
 
 pub loop-x-preserved : goal.loop-x-preserved

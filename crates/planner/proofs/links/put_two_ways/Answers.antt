@@ -1,5 +1,5 @@
 -- `links::put_two_ways`: the records of one link more. Assumes nothing.
-use Rattle.std.proofs.Common.{◌≡◌, List, ℕ, suc, ◌+◌, ◌*◌, ◌-◌, ◌≤◌, ◌++◌, length, drop, ◌∙◌, length-take, length-drop, add-one, rules, arith}
+use Rattle.std.proofs.Common.{◌≡◌, suc, ◌+◌, ◌*◌, ◌-◌, ◌≤◌, ◌++◌, length, drop, ◌∙◌, length-take, length-drop, add-one, rules, arith}
 use borrow.Rule.Slice.PartMut.{mid_of}
 use Rattle.ring.specs.Lists.{each}
 use Rattle.ring.specs.Numbers.{sum_ℤ}
