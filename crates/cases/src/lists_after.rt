@@ -2,8 +2,8 @@
 use crate::{
     PLACES, ROOM, UNTOLD, UNTOUCHED, end, least, number, show_answer, show_left, show_place,
 };
-use libc::STDOUT_FILENO;
 use planner::Planned;
+use std::io;
 use std::num::{
     wrapping_add_u32, wrapping_add_u64, wrapping_add_usize, wrapping_sub_u16, wrapping_sub_usize,
 };
@@ -53,53 +53,56 @@ fn columns_of(job: &[u8]) -> usize {
 }
 
 // What parts a board's columns from those of the board before it.
-fn show_bar(board: u8) {
+fn show_bar(rt: &impl Print, board: u8) -> io::Result<()> {
     if 0 < board {
-        io::write_all(STDOUT_FILENO, b" |");
+        rt.write_all(b" |")?;
     }
+    Ok(())
 }
 
 // The place past the columns.
-fn show_past(list: &[u32], at: usize) {
-    io::write_all(STDOUT_FILENO, b" then");
-    show_place(list, at);
+fn show_past(rt: &impl Print, list: &[u32], at: usize) -> io::Result<()> {
+    rt.write_all(b" then")?;
+    show_place(rt, list, at)
 }
 
 // The first and the last of so many places.
-fn show_ends(list: &[u32], at: usize, load: u16) {
-    show_place(list, at);
-    io::write_all(STDOUT_FILENO, b" ..");
+fn show_ends(rt: &impl Print, list: &[u32], at: usize, load: u16) -> io::Result<()> {
+    show_place(rt, list, at)?;
+    rt.write_all(b" ..")?;
     show_place(
+        rt,
         list,
         wrapping_sub_usize(wrapping_add_usize(at, load as usize), 1),
-    );
+    )
 }
 
-fn show_each(list: &[u32], at: usize, load: u16) {
+fn show_each(rt: &impl Print, list: &[u32], at: usize, load: u16) -> io::Result<()> {
     for k in 0..load {
-        show_place(list, wrapping_add_usize(at, k as usize));
+        show_place(rt, list, wrapping_add_usize(at, k as usize))?;
     }
+    Ok(())
 }
 
 // A board's columns, which begin at a place of the list.
-fn show_board(list: &[u32], at: usize, load: u16) {
+fn show_board(rt: &impl Print, list: &[u32], at: usize, load: u16) -> io::Result<()> {
     if SHOWN < load {
-        show_ends(list, at, load);
+        show_ends(rt, list, at, load)
     } else {
-        show_each(list, at, load);
+        show_each(rt, list, at, load)
     }
 }
 
 // Every board's columns, and the place past them.
-fn show_boards(job: &[u8], list: &[u32]) {
+fn show_boards(rt: &impl Print, job: &[u8], list: &[u32]) -> io::Result<()> {
     let mut at: usize = 0;
     for board in 0..boards_of(job) {
         let load = load_after(job, board);
-        show_bar(board);
-        show_board(list, at, load);
+        show_bar(rt, board)?;
+        show_board(rt, list, at, load)?;
         at = wrapping_add_usize(at, load as usize);
     }
-    show_past(list, at);
+    show_past(rt, list, at)
 }
 
 // Asks for the columns with the first `room` bytes and the first `places` places.
@@ -110,51 +113,69 @@ fn ask(job: &[u8], plan: &mut [u8], room: usize, list: &mut [u32], places: usize
 }
 
 // The columns, asked for with so many bytes of a fresh buffer and so many places of a lent list, beside the plan in all of a buffer.
-fn show_asked(job: &[u8], room: usize, list: &mut [u32], places: usize, whole: &[u8]) {
+fn show_asked(
+    rt: &impl Print,
+    job: &[u8],
+    room: usize,
+    list: &mut [u32],
+    places: usize,
+    whole: &[u8],
+) -> io::Result<()> {
     let mut plan = [UNTOUCHED; ROOM];
     let answer = ask(job, &mut plan, room, list, places);
-    number(b"  bytes ", room as u64);
-    number(b" places ", places as u64);
-    io::write_all(STDOUT_FILENO, b" columns");
-    show_boards(job, list);
-    show_answer(answer);
-    show_left(whole, &plan);
+    number(rt, b"  bytes ", room as u64)?;
+    number(rt, b" places ", places as u64)?;
+    rt.write_all(b" columns")?;
+    show_boards(rt, job, list)?;
+    show_answer(rt, answer)?;
+    show_left(rt, whole, &plan)
 }
 
 // The same with a fresh list.
-fn show_call(job: &[u8], room: usize, places: usize, whole: &[u8]) {
+fn show_call(
+    rt: &impl Print,
+    job: &[u8],
+    room: usize,
+    places: usize,
+    whole: &[u8],
+) -> io::Result<()> {
     let mut list = [UNTOLD; PLACES];
-    show_asked(job, room, &mut list, places, whole);
+    show_asked(rt, job, room, &mut list, places, whole)
 }
 
 // The columns of a ring whose plan has `long` bytes: with bytes and a place to spare, with all exact, with a place short, with a byte and a
 // place short, and with no place.
-pub(crate) fn show_columns(job: &[u8], long: usize, whole: &[u8]) {
+pub(crate) fn show_columns(
+    rt: &impl Print,
+    job: &[u8],
+    long: usize,
+    whole: &[u8],
+) -> io::Result<()> {
     let all = columns_of(job);
     let less = wrapping_sub_usize(long, 1);
     let fewer = wrapping_sub_usize(all, 1);
-    show_call(job, ROOM, wrapping_add_usize(all, 1), whole);
-    show_call(job, long, all, whole);
-    show_call(job, long, fewer, whole);
-    show_call(job, less, fewer, whole);
-    show_call(job, long, 0, whole);
+    show_call(rt, job, ROOM, wrapping_add_usize(all, 1), whole)?;
+    show_call(rt, job, long, all, whole)?;
+    show_call(rt, job, long, fewer, whole)?;
+    show_call(rt, job, less, fewer, whole)?;
+    show_call(rt, job, long, 0, whole)
 }
 
 // The cut job, which the planner refuses: its columns with no place, and with places to spare.
-fn show_refused(job: &[u8]) {
+fn show_refused(rt: &impl Print, job: &[u8]) -> io::Result<()> {
     let mut plan = [UNTOUCHED; ROOM];
-    io::write_all(STDOUT_FILENO, b"A cut");
-    show_answer(planner::plan(job, &mut plan));
-    end();
-    show_call(job, ROOM, 0, &plan);
-    show_call(job, ROOM, PLACES, &plan);
+    rt.write_all(b"A cut")?;
+    show_answer(rt, planner::plan(job, &mut plan))?;
+    end(rt)?;
+    show_call(rt, job, ROOM, 0, &plan)?;
+    show_call(rt, job, ROOM, PLACES, &plan)
 }
 
 // Ring A without its last byte.
-pub(crate) fn show_cut() {
+pub(crate) fn show_cut(rt: &impl Print) -> io::Result<()> {
     let mut job = [0u8; 31];
     hop::write(2, &[5, 1, 1, 2], &[3, 0, -2, -1], &[2, 3, 1, 4], &mut job);
-    show_refused(&job[0..30]);
+    show_refused(rt, &job[0..30])
 }
 
 // How many places of a list have the number after the one before them.
@@ -170,21 +191,21 @@ fn in_turn(list: &[u32]) -> u64 {
 
 // The columns of the ring of many with a place short, then with a place to spare in the same list. Then all are in turn but the first and
 // the one after the wrap.
-fn show_many_columns(job: &[u8]) {
+fn show_many_columns(rt: &impl Print, job: &[u8]) -> io::Result<()> {
     let mut plan = [UNTOUCHED; ROOM];
     let mut list = [UNTOLD; MANY];
-    io::write_all(STDOUT_FILENO, b"many");
-    show_answer(planner::plan(job, &mut plan));
-    end();
-    show_asked(job, ROOM, &mut list, MANY - 2, &plan);
-    show_asked(job, ROOM, &mut list, MANY, &plan);
-    number(b"  in turn ", in_turn(&list));
-    end();
+    rt.write_all(b"many")?;
+    show_answer(rt, planner::plan(job, &mut plan))?;
+    end(rt)?;
+    show_asked(rt, job, ROOM, &mut list, MANY - 2, &plan)?;
+    show_asked(rt, job, ROOM, &mut list, MANY, &plan)?;
+    number(rt, b"  in turn ", in_turn(&list))?;
+    end(rt)
 }
 
 // More columns than 16 bits count, on boards with the greatest loads and costs. Three of the last board's go to board 0, so that the columns
 // wrap inside it.
-pub(crate) fn show_many() {
+pub(crate) fn show_many(rt: &impl Print) -> io::Result<()> {
     let mut loads = [4095u16; 17];
     let mut surpluses = [0i16; 17];
     let mut job = [0u8; 109];
@@ -192,5 +213,5 @@ pub(crate) fn show_many() {
     surpluses[0] = -3;
     surpluses[16] = 3;
     hop::write(2, &loads, &surpluses, &[8000; 17], &mut job);
-    show_many_columns(&job);
+    show_many_columns(rt, &job)
 }

@@ -8,8 +8,8 @@ mod lists_after;
 ghost use Rattle.std.specs.Prelude.{◌≤◌};
 
 use hop::Written;
-use libc::STDOUT_FILENO;
 use planner::Planned;
+use std::io;
 use std::num::{wrapping_add_u64, wrapping_add_usize, wrapping_sub_usize};
 
 // The bytes of a plan's buffer: more than these rings' plans have, but for the wide ring's.
@@ -27,31 +27,32 @@ const PLACES: usize = 34;
 // The length of the wide ring's plan: 983,808 sends. It stands on the stack, which has to have some 6 MB.
 const WIDE: usize = 5902863;
 
-fn number(word: &[u8], n: u64) {
-    io::write_all(STDOUT_FILENO, word);
-    io::print_decimal(STDOUT_FILENO, n);
+fn number(rt: &impl Print, word: &[u8], n: u64) -> io::Result<()> {
+    rt.write_all(word)?;
+    rt.print(n)
 }
 
-fn end() {
-    io::write_all(STDOUT_FILENO, b"\n");
+fn end(rt: &impl Print) -> io::Result<()> {
+    rt.write_all(b"\n")
 }
 
-fn show_answer(answer: Planned) {
+fn show_answer(rt: &impl Print, answer: Planned) -> io::Result<()> {
     match answer {
         Planned::Plan {
             finish,
             moves,
             tight,
         } => {
-            number(b" finish ", finish as u64);
-            number(b" moves ", moves as u64);
-            number(b" tight ", tight as u64);
+            number(rt, b" finish ", finish as u64)?;
+            number(rt, b" moves ", moves as u64)?;
+            number(rt, b" tight ", tight as u64)?;
         }
         Planned::Refused { number: no, board } => {
-            number(b" refused ", no as u64);
-            number(b" board ", board as u64);
+            number(rt, b" refused ", no as u64)?;
+            number(rt, b" board ", board as u64)?;
         }
     }
+    Ok(())
 }
 
 fn moves_of(answer: Planned) -> u32 {
@@ -83,20 +84,21 @@ fn byte(s: &[u8], at: usize, k: usize) -> u64 {
 }
 
 // The record at a place, with the bytes of its start.
-fn show_record(plan: &[u8], at: usize) {
-    number(b"  link ", byte(plan, at, 0));
-    number(b" direction ", byte(plan, at, 1));
-    number(b" start ", byte(plan, at, 2));
-    number(b" ", byte(plan, at, 3));
-    number(b" ", byte(plan, at, 4));
-    number(b" ", byte(plan, at, 5));
-    end();
+fn show_record(rt: &impl Print, plan: &[u8], at: usize) -> io::Result<()> {
+    number(rt, b"  link ", byte(plan, at, 0))?;
+    number(rt, b" direction ", byte(plan, at, 1))?;
+    number(rt, b" start ", byte(plan, at, 2))?;
+    number(rt, b" ", byte(plan, at, 3))?;
+    number(rt, b" ", byte(plan, at, 4))?;
+    number(rt, b" ", byte(plan, at, 5))?;
+    end(rt)
 }
 
-fn show_records(plan: &[u8], moves: u32) {
+fn show_records(rt: &impl Print, plan: &[u8], moves: u32) -> io::Result<()> {
     for k in 0..moves {
-        show_record(plan, 15 + 6 * (k as usize));
+        show_record(rt, plan, 15 + 6 * (k as usize))?;
     }
+    Ok(())
 }
 
 fn least(a: usize, b: usize) -> usize
@@ -139,69 +141,100 @@ fn alike(a: &[u8], b: &[u8]) -> u64 {
 }
 
 // How many bytes of a plan's buffer are as in another, and how many as they were before.
-fn show_left(whole: &[u8], plan: &[u8]) {
-    number(b" alike ", alike(whole, plan));
-    number(b" kept ", alike(&[UNTOUCHED; ROOM], plan));
-    end();
+fn show_left(rt: &impl Print, whole: &[u8], plan: &[u8]) -> io::Result<()> {
+    number(rt, b" alike ", alike(whole, plan))?;
+    number(rt, b" kept ", alike(&[UNTOUCHED; ROOM], plan))?;
+    end(rt)
 }
 
 // A plan in so many bytes of a fresh buffer, beside the plan in all of one.
-fn show_plan(job: &[u8], room: usize, whole: &[u8]) {
+fn show_plan(rt: &impl Print, job: &[u8], room: usize, whole: &[u8]) -> io::Result<()> {
     let mut plan = [UNTOUCHED; ROOM];
-    number(b"  bytes ", room as u64);
-    show_answer(plan_into(job, &mut plan, room));
-    show_left(whole, &plan);
+    number(rt, b"  bytes ", room as u64)?;
+    show_answer(rt, plan_into(job, &mut plan, room))?;
+    show_left(rt, whole, &plan)
 }
 
-fn show_place(list: &[u32], i: usize) {
+fn show_place(rt: &impl Print, list: &[u32], i: usize) -> io::Result<()> {
     if i < list.len() {
-        number(b" ", wider(list[i]));
+        number(rt, b" ", wider(list[i]))?;
     }
+    Ok(())
 }
 
 // The loads of so many boards, and the place after them.
-fn show_list(list: &[u32], boards: usize) {
-    io::write_all(STDOUT_FILENO, b" loads");
+fn show_list(rt: &impl Print, list: &[u32], boards: usize) -> io::Result<()> {
+    rt.write_all(b" loads")?;
     for i in 0..=boards {
-        show_place(list, i);
+        show_place(rt, list, i)?;
     }
+    Ok(())
 }
 
 // The loads at a tick, asked for with so many bytes of a lent buffer and so many places of a fresh list.
-fn show_loads(job: &[u8], tick: u32, plan: &mut [u8], room: usize, places: usize, boards: usize) {
+fn show_loads(
+    rt: &impl Print,
+    job: &[u8],
+    tick: u32,
+    plan: &mut [u8],
+    room: usize,
+    places: usize,
+    boards: usize,
+) -> io::Result<()> {
     let mut list = [UNTOLD; PLACES];
     let answer = ask(job, tick, plan, room, &mut list, places);
-    number(b"  at ", wider(tick));
-    number(b" bytes ", room as u64);
-    number(b" places ", places as u64);
-    show_list(&list, boards);
-    show_answer(answer);
+    number(rt, b"  at ", wider(tick))?;
+    number(rt, b" bytes ", room as u64)?;
+    number(rt, b" places ", places as u64)?;
+    show_list(rt, &list, boards)?;
+    show_answer(rt, answer)
 }
 
 // The same with so many bytes of a fresh buffer, beside the plan in all of one.
-fn show_query(job: &[u8], tick: u32, room: usize, places: usize, boards: usize, whole: &[u8]) {
+fn show_query(
+    rt: &impl Print,
+    job: &[u8],
+    tick: u32,
+    room: usize,
+    places: usize,
+    boards: usize,
+    whole: &[u8],
+) -> io::Result<()> {
     let mut plan = [UNTOUCHED; ROOM];
-    show_loads(job, tick, &mut plan, room, places, boards);
-    show_left(whole, &plan);
+    show_loads(rt, job, tick, &mut plan, room, places, boards)?;
+    show_left(rt, whole, &plan)
 }
 
 // The loads at each tick, in a list of one place more than there are boards.
-fn show_ticks(job: &[u8], boards: usize, ticks: &[u32], whole: &[u8]) {
+fn show_ticks(
+    rt: &impl Print,
+    job: &[u8],
+    boards: usize,
+    ticks: &[u32],
+    whole: &[u8],
+) -> io::Result<()> {
     let places = wrapping_add_usize(boards, 1);
     for k in 0..ticks.len() {
-        show_query(job, ticks[k], ROOM, places, boards, whole);
+        show_query(rt, job, ticks[k], ROOM, places, boards, whole)?;
     }
+    Ok(())
 }
 
 // A plan's buffer exact and a byte short; the loads at tick 1 with all exact, with a place short, and with a byte and a place short.
-fn show_exact(job: &[u8], boards: usize, long: usize, whole: &[u8]) {
+fn show_exact(
+    rt: &impl Print,
+    job: &[u8],
+    boards: usize,
+    long: usize,
+    whole: &[u8],
+) -> io::Result<()> {
     let less = wrapping_sub_usize(long, 1);
     let fewer = wrapping_sub_usize(boards, 1);
-    show_plan(job, long, whole);
-    show_plan(job, less, whole);
-    show_query(job, 1, long, boards, boards, whole);
-    show_query(job, 1, long, fewer, boards, whole);
-    show_query(job, 1, less, fewer, boards, whole);
+    show_plan(rt, job, long, whole)?;
+    show_plan(rt, job, less, whole)?;
+    show_query(rt, job, 1, long, boards, boards, whole)?;
+    show_query(rt, job, 1, long, fewer, boards, whole)?;
+    show_query(rt, job, 1, less, fewer, boards, whole)
 }
 
 // The length that was written, no more than the room for it.
@@ -218,49 +251,64 @@ fn length_of(written: Written, room: usize) -> usize
 }
 
 // A ring's answer and records, then its plan and its loads in other buffers and lists, then its loads at each tick, then its columns.
-fn show(label: &[u8], kind: u8, loads: &[u16], surpluses: &[i16], costs: &[u16], ticks: &[u32]) {
+fn show(
+    rt: &impl Print,
+    label: &[u8],
+    kind: u8,
+    loads: &[u16],
+    surpluses: &[i16],
+    costs: &[u16],
+    ticks: &[u32],
+) -> io::Result<()> {
     let mut bytes = [0u8; 60];
     let mut plan = [UNTOUCHED; ROOM];
     let length = length_of(hop::write(kind, loads, surpluses, costs, &mut bytes), 60);
     let job = &bytes[0..length];
     let answer = planner::plan(job, &mut plan);
     let moves = moves_of(answer);
-    io::write_all(STDOUT_FILENO, label);
-    show_answer(answer);
-    end();
-    show_records(&plan, moves);
+    rt.write_all(label)?;
+    show_answer(rt, answer)?;
+    end(rt)?;
+    show_records(rt, &plan, moves)?;
     let long = 15 + 6 * (moves as usize);
-    show_exact(job, loads.len(), long, &plan);
-    show_ticks(job, loads.len(), ticks, &plan);
-    lists_after::show_columns(job, long, &plan);
+    show_exact(rt, job, loads.len(), long, &plan)?;
+    show_ticks(rt, job, loads.len(), ticks, &plan)?;
+    lists_after::show_columns(rt, job, long, &plan)
 }
 
 // The loads of the wide ring at a tick, its plan in a fresh buffer of the plan's length.
-fn show_wide_tick(job: &[u8], tick: u32) {
+fn show_wide_tick(rt: &impl Print, job: &[u8], tick: u32) -> io::Result<()> {
     let mut plan = [UNTOUCHED; WIDE];
-    show_loads(job, tick, &mut plan, WIDE, PLACES, 33);
-    end();
+    show_loads(rt, job, tick, &mut plan, WIDE, PLACES, 33)?;
+    end(rt)
 }
 
-fn show_wide_ticks(job: &[u8], ticks: &[u32]) {
+fn show_wide_ticks(rt: &impl Print, job: &[u8], ticks: &[u32]) -> io::Result<()> {
     for k in 0..ticks.len() {
-        show_wide_tick(job, ticks[k]);
+        show_wide_tick(rt, job, ticks[k])?;
     }
+    Ok(())
 }
 
-fn show_wide_ring(loads: &[u16], surpluses: &[i16], costs: &[u16]) {
+fn show_wide_ring(
+    rt: &impl Print,
+    loads: &[u16],
+    surpluses: &[i16],
+    costs: &[u16],
+) -> io::Result<()> {
     let mut job = [0u8; 205];
     let length = length_of(hop::write(2, loads, surpluses, costs, &mut job), 205);
-    io::write_all(STDOUT_FILENO, b"wide\n");
+    rt.write_all(b"wide\n")?;
     show_wide_ticks(
+        rt,
         &job[0..length],
         &[0, 61448, 61449, 64000, 64001, 491591999, 491592000],
-    );
+    )
 }
 
 // Sixteen boards shed towards board 16 at an item a tick, and it passes an item on in 8,000 ticks, to sixteen that gain: after 61,449 receipts
 // and 8 sends its load is 4,095 + 61,449 - 8 = 65,536.
-fn show_wide() {
+fn show_wide(rt: &impl Print) -> io::Result<()> {
     let mut loads = [1u16; 33];
     let mut surpluses = [-4094i16; 33];
     let mut costs = [1u16; 33];
@@ -274,86 +322,101 @@ fn show_wide() {
     surpluses[16] = 0;
     costs[16] = 8000;
     surpluses[32] = -39;
-    show_wide_ring(&loads, &surpluses, &costs);
+    show_wide_ring(rt, &loads, &surpluses, &costs)
 }
 
-fn show_a_to_c() {
+fn show_a_to_c(rt: &impl Print) -> io::Result<()> {
     show(
+        rt,
         b"A",
         2,
         &[5, 1, 1, 2],
         &[3, 0, -2, -1],
         &[2, 3, 1, 4],
         &[0, 1, 3, 6, 8, 9, 4294967295],
-    );
+    )?;
     show(
+        rt,
         b"B",
         3,
         &[6, 1, 1, 1],
         &[4, -2, -1, -1],
         &[5, 5, 5, 5],
         &[0, 1, 5, 10, 15, 19, 20],
-    );
-    show(b"C", 1, &[2, 1], &[1, -1], &[7, 7], &[0, 1, 6, 7]);
-    show(b"C2", 1, &[1, 2], &[-1, 1], &[7, 7], &[0, 1, 6, 7]);
+    )?;
+    show(rt, b"C", 1, &[2, 1], &[1, -1], &[7, 7], &[0, 1, 6, 7])?;
+    show(rt, b"C2", 1, &[1, 2], &[-1, 1], &[7, 7], &[0, 1, 6, 7])
 }
 
-fn show_d_to_h() {
-    show(b"D", 2, &[2, 1], &[1, -1], &[1, 100], &[0, 1]);
+fn show_d_to_h(rt: &impl Print) -> io::Result<()> {
+    show(rt, b"D", 2, &[2, 1], &[1, -1], &[1, 100], &[0, 1])?;
     show(
+        rt,
         b"E",
         1,
         &[1, 1, 1],
         &[0, 0, 0],
         &[1, 1, 1],
         &[0, 1, 4294967295],
-    );
-    show(b"F", 1, &[2, 1, 1], &[1, 0, -1], &[1, 1, 1], &[0, 1]);
+    )?;
+    show(rt, b"F", 1, &[2, 1, 1], &[1, 0, -1], &[1, 1, 1], &[0, 1])?;
     show(
+        rt,
         b"G",
         3,
         &[3, 3, 3, 1, 1, 1],
         &[2, 2, 2, -2, -2, -2],
         &[1, 1, 1, 1, 1, 1],
         &[0, 1, 2, 3],
-    );
-    show(b"H", 3, &[4, 1, 1], &[3, -2, -1], &[1, 1, 1], &[0, 1, 2, 3]);
+    )?;
+    show(
+        rt,
+        b"H",
+        3,
+        &[4, 1, 1],
+        &[3, -2, -1],
+        &[1, 1, 1],
+        &[0, 1, 2, 3],
+    )
 }
 
 // Ring A with link 0 upgraded, which ends as it did, and with link 1 upgraded, which ends sooner; and a ring whose link 0 takes as long for 2 items as
 // link 1 does for 3.
-fn show_tight() {
+fn show_tight(rt: &impl Print) -> io::Result<()> {
     show(
+        rt,
         b"A, link 0 upgraded",
         2,
         &[5, 1, 1, 2],
         &[3, 0, -2, -1],
         &[1, 3, 1, 4],
         &[3, 9],
-    );
+    )?;
     show(
+        rt,
         b"A, link 1 upgraded",
         2,
         &[5, 1, 1, 2],
         &[3, 0, -2, -1],
         &[2, 2, 1, 4],
         &[3, 6],
-    );
+    )?;
     show(
+        rt,
         b"two as tight",
         2,
         &[3, 2, 1],
         &[2, 1, -3],
         &[3, 2, 9],
         &[3, 6],
-    );
+    )
 }
 
-fn main() {
-    show_a_to_c();
-    show_d_to_h();
-    show_tight();
-    lists_after::show_cut();
-    lists_after::show_many();
-    show_wide();
+fn main(rt: HostRuntime) -> io::Result<()> {
+    show_a_to_c(&rt)?;
+    show_d_to_h(&rt)?;
+    show_tight(&rt)?;
+    lists_after::show_cut(&rt)?;
+    lists_after::show_many(&rt)?;
+    show_wide(&rt)
 }

@@ -1,11 +1,11 @@
 // What the program prints, asked of the function that it prints by: inputs about the limit of 776 bytes, each refusal that the program can
-// give, and plans about the room of 10,920 sends. It can't give 12, which no ring within the limits is given (never-twelve, in the planner's
+// give, and plans about the room of 10,920 sends. It can't give 12, which no ring within the limits is given (never_twelve, in the planner's
 // proofs), nor 14, since it asks for no loads.
 #![tactic(auto)]
 
 ghost use Rattle.std.specs.Prelude.{◌≤◌, ◌<◌, length};
 
-use libc::STDOUT_FILENO;
+use std::io;
 
 // How many bytes of a text are shown: all of a short one, the first line of a longer one.
 fn shown(text: &[u8]) -> usize
@@ -23,24 +23,24 @@ fn shown(text: &[u8]) -> usize
 }
 
 // LABEL: LENGTH bytes of text, and what is shown of them.
-fn show(label: &[u8], text: &[u8]) {
-    io::write_all(STDOUT_FILENO, label);
-    io::write_all(STDOUT_FILENO, b": ");
-    io::print_decimal(STDOUT_FILENO, text.len() as u64);
-    io::write_all(STDOUT_FILENO, b" bytes of text\n");
+fn show(rt: &impl Print, label: &[u8], text: &[u8]) -> io::Result<()> {
+    rt.write_all(label)?;
+    rt.write_all(b": ")?;
+    rt.print(text.len() as u64)?;
+    rt.write_all(b" bytes of text\n")?;
     let few = shown(text);
-    io::write_all(STDOUT_FILENO, &text[..few]);
+    rt.write_all(&text[..few])
 }
 
 // The text of an input.
-fn prints(label: &[u8], input: &[u8]) {
+fn prints(rt: &impl Print, label: &[u8], input: &[u8]) -> io::Result<()> {
     let mut text = [0u8; report::TEXT_ROOM];
     let length = report::printout(input, &mut text);
-    show(label, &text[..length]);
+    show(rt, label, &text[..length])
 }
 
 // The text of so many bytes: a sound job of 128 boards, zeros after it, and one byte changed.
-fn changed(label: &[u8], length: usize, at: usize, value: u8)
+fn changed(rt: &impl Print, label: &[u8], length: usize, at: usize, value: u8) -> io::Result<()>
     requires { (length ≤ 5000) × (at < 5000) }
 {
     let loads = [2u16; 128];
@@ -51,49 +51,49 @@ fn changed(label: &[u8], length: usize, at: usize, value: u8)
     let mut bytes = [0u8; 5000];
     hop::write(1, &loads, &surpluses, &costs, &mut bytes);
     bytes[at] = value;
-    prints(label, &bytes[..length]);
+    prints(rt, label, &bytes[..length])
 }
 
 // The text of a job of four boards, of kind 1 and cost 1.
-fn four(label: &[u8], loads: &[u16], surpluses: &[i16]) {
+fn four(rt: &impl Print, label: &[u8], loads: &[u16], surpluses: &[i16]) -> io::Result<()> {
     let mut bytes = [0u8; 31];
     hop::write(1, loads, surpluses, &[1, 1, 1, 1], &mut bytes);
-    prints(label, &bytes);
+    prints(rt, label, &bytes)
 }
 
 // Inputs by their length.
-fn inputs() {
-    changed(b"input of 0", 0, 6, 128);
-    changed(b"input of 775", 775, 6, 128);
-    changed(b"input of 776", 776, 6, 128);
-    changed(b"input of 777", 777, 6, 128);
-    changed(b"input of 5000", 5000, 6, 128);
-    changed(b"input of 5000, mark", 5000, 0, b'h');
+fn inputs(rt: &impl Print) -> io::Result<()> {
+    changed(rt, b"input of 0", 0, 6, 128)?;
+    changed(rt, b"input of 775", 775, 6, 128)?;
+    changed(rt, b"input of 776", 776, 6, 128)?;
+    changed(rt, b"input of 777", 777, 6, 128)?;
+    changed(rt, b"input of 5000", 5000, 6, 128)?;
+    changed(rt, b"input of 5000, mark", 5000, 0, b'h')
 }
 
 // Refusals 1 to 6.
-fn headers() {
-    changed(b"6 bytes", 6, 6, 128);
-    changed(b"mark", 775, 2, b'p');
-    changed(b"version 2", 775, 4, 2);
-    changed(b"kind 4", 775, 5, 4);
-    changed(b"129 boards", 775, 6, 129);
-    changed(b"774 bytes", 774, 6, 128);
+fn headers(rt: &impl Print) -> io::Result<()> {
+    changed(rt, b"6 bytes", 6, 6, 128)?;
+    changed(rt, b"mark", 775, 2, b'p')?;
+    changed(rt, b"version 2", 775, 4, 2)?;
+    changed(rt, b"kind 4", 775, 5, 4)?;
+    changed(rt, b"129 boards", 775, 6, 129)?;
+    changed(rt, b"774 bytes", 774, 6, 128)
 }
 
 // Refusals 7 to 11: on boards 5, 9, 127 and 11, and on no board.
-fn boards() {
-    changed(b"load 0", 775, 38, 0);
-    changed(b"load after 0", 775, 64, 2);
-    changed(b"cost 0", 775, 774, 0);
-    changed(b"unlike cost", 775, 78, 2);
-    changed(b"sum 1", 775, 16, 1);
+fn boards(rt: &impl Print) -> io::Result<()> {
+    changed(rt, b"load 0", 775, 38, 0)?;
+    changed(rt, b"load after 0", 775, 64, 2)?;
+    changed(rt, b"cost 0", 775, 774, 0)?;
+    changed(rt, b"unlike cost", 775, 78, 2)?;
+    changed(rt, b"sum 1", 775, 16, 1)
 }
 
-fn main() {
-    inputs();
-    headers();
-    boards();
-    four(b"10920 sends", &[3641, 1, 1, 1], &[3640, 0, 0, -3640]);
-    four(b"10921 sends", &[3642, 1, 1, 1], &[3641, -1, 0, -3640]);
+fn main(rt: HostRuntime) -> io::Result<()> {
+    inputs(&rt)?;
+    headers(&rt)?;
+    boards(&rt)?;
+    four(&rt, b"10920 sends", &[3641, 1, 1, 1], &[3640, 0, 0, -3640])?;
+    four(&rt, b"10921 sends", &[3642, 1, 1, 1], &[3641, -1, 0, -3640])
 }
