@@ -31,7 +31,7 @@ struct Board {
 }
 
 // A board and one of its links after what came next on that.
-#[derive(Clone, Copy)]
+#[derive(Drop)]
 struct Played {
     board: Board,
     side: Side,
