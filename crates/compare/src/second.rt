@@ -221,8 +221,8 @@ fn after(i: usize, n: usize) -> usize
 }
 
 // A one-way ring, from a tick at which something ends to the next: what starts, and then what arrives. Each turn after the first comes at an
-// end of a send, so there are no more turns than sends until the last one starts. The loops over the boards stand in it, since boards can't
-// be lent, and copying them at every turn is slow.
+// end of a send, so there are no more turns than sends until the last one starts. The loops over the boards stand in it, since copying the
+// boards at every turn is slow.
 fn play(ring: Ring, n: usize, buf: &mut [u8]) -> Ring
     requires { n ≤ 128 }
 {
