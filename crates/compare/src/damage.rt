@@ -5,7 +5,7 @@ use crate::rings::{Drawn, draw, draw_place};
 use std::num::{wrapping_add_u16, wrapping_sub_u16};
 
 // Bytes, and how many of them are the job's.
-#[derive(Drop)]
+#[derive(Clone, Copy)]
 pub(crate) struct Bytes {
     pub(crate) bytes: [u8; 800],
     pub(crate) length: usize,

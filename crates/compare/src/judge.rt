@@ -10,7 +10,7 @@ use std::num::{wrapping_add_u32, wrapping_add_u64, wrapping_add_usize};
 const NEVER: u64 = u64::MAX;
 
 // One of a board's two links: which direction is the board's own on it, the next record on it to start and the next to end, and their moments.
-#[derive(Drop)]
+#[derive(Clone, Copy)]
 struct Side {
     link: u8,
     own: u8,
@@ -22,7 +22,7 @@ struct Side {
 }
 
 // A board in play: its load, until which tick it sends and receives, and the faults so far.
-#[derive(Drop)]
+#[derive(Clone, Copy)]
 struct Board {
     load: u32,
     sends: u64,

@@ -13,7 +13,7 @@ use std::num::{wrapping_add_u32, wrapping_sub_u32, wrapping_sub_usize};
 pub(crate) const EMPTY: u32 = 2863311530;
 
 // What was played and compared, what was refused, and what was found.
-#[derive(Drop)]
+#[derive(Clone, Copy)]
 pub(crate) struct Compared {
     pub(crate) played: [u32; 4],
     pub(crate) boards: u32,
@@ -36,7 +36,7 @@ pub(crate) struct Compared {
 
 // The boards passed so far: where the next one's part of the list begins, how often a column is below the one before it on its board, and the
 // differences. And the faults of the play before.
-#[derive(Drop)]
+#[derive(Clone, Copy)]
 struct Passed {
     at: u32,
     falls: u32,

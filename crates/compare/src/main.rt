@@ -13,11 +13,11 @@ mod table;
 ghost use Rattle.std.specs.Prelude.{◌<◌, ◌≤◌};
 
 use damage::Bytes;
-use libc::STDOUT_FILENO;
 use listing::Compared;
 use planner::Planned;
 use player::LISTS;
 use second::{Answer, length};
+use std::io;
 use std::num::wrapping_add_u32;
 use table::Job;
 
@@ -28,7 +28,7 @@ const UNTOUCHED: u8 = 170;
 const RINGS: u32 = 24000;
 
 // What was compared, what differed, and what the judge found.
-#[derive(Drop)]
+#[derive(Clone, Copy)]
 struct Counts {
     waiting: u32,
     // plans whose tight link carries fewer items than another, and in which another link is as tight
@@ -338,94 +338,95 @@ fn compare_all(mine: &mut [u8], theirs: &mut [u8], lists: &mut [u32]) -> Counts 
     counts
 }
 
-fn line(label: &[u8], n: u32) {
-    io::write_all(STDOUT_FILENO, label);
-    io::print_decimal(STDOUT_FILENO, n as u64);
-    io::write_all(STDOUT_FILENO, b"\n");
+fn line(rt: &impl Print, label: &str, n: u32) -> io::Result<()> {
+    println!(rt; "{label}{n}")
 }
 
 // A count of one kind or of one refusal.
-fn numbered(label: &[u8], number: u32, n: u32) {
-    io::write_all(STDOUT_FILENO, label);
-    io::print_decimal(STDOUT_FILENO, number as u64);
-    line(b": ", n);
+fn numbered(rt: &impl Print, label: &str, number: u32, n: u32) -> io::Result<()> {
+    println!(rt; "{label}{number}: {n}")
 }
 
-fn print_rings(counts: Counts) {
+fn print_rings(rt: &impl Print, counts: Counts) -> io::Result<()> {
     let judged = counts.judged;
-    numbered(b"plans judged of kind ", 1, judged[1]);
-    numbered(b"plans judged of kind ", 2, judged[2]);
-    numbered(b"plans judged of kind ", 3, judged[3]);
-    line(b"plans in which a board waits: ", counts.waiting);
+    numbered(rt, "plans judged of kind ", 1, judged[1])?;
+    numbered(rt, "plans judged of kind ", 2, judged[2])?;
+    numbered(rt, "plans judged of kind ", 3, judged[3])?;
+    line(rt, "plans in which a board waits: ", counts.waiting)?;
     line(
-        b"plans whose tight link carries fewer items than another: ",
+        rt,
+        "plans whose tight link carries fewer items than another: ",
         counts.lighter,
-    );
-    line(b"plans in which another link is as tight: ", counts.equals);
+    )?;
+    line(
+        rt,
+        "plans in which another link is as tight: ",
+        counts.equals,
+    )
 }
 
-fn print_limits(counts: Counts) {
-    line(b"plans with a load of 4095: ", counts.loads);
-    line(b"plans with a cost of 8000: ", counts.costs);
-    line(b"plans with a finish past 16 bits: ", counts.past16);
-    line(b"plans with a finish past 24 bits: ", counts.past24);
-    line(b"sends: ", counts.sends);
+fn print_limits(rt: &impl Print, counts: Counts) -> io::Result<()> {
+    line(rt, "plans with a load of 4095: ", counts.loads)?;
+    line(rt, "plans with a cost of 8000: ", counts.costs)?;
+    line(rt, "plans with a finish past 16 bits: ", counts.past16)?;
+    line(rt, "plans with a finish past 24 bits: ", counts.past24)?;
+    line(rt, "sends: ", counts.sends)
 }
 
-fn refusal(number: u32, n: u32) {
-    numbered(b"refused ", number, n);
+fn refusal(rt: &impl Print, number: u32, n: u32) -> io::Result<()> {
+    numbered(rt, "refused ", number, n)
 }
 
 // Refusals 1 to 11 and 13; 12 is never given.
-fn print_refusals(refused: [u32; 16]) {
+fn print_refusals(rt: &impl Print, refused: [u32; 16]) -> io::Result<()> {
     for i in 1..12 {
-        refusal(i as u32, refused[i]);
+        refusal(rt, i as u32, refused[i])?;
     }
-    refusal(13, refused[13]);
+    refusal(rt, 13, refused[13])
 }
 
-fn print_found(counts: Counts) {
-    line(b"refusals of a board other than 0: ", counts.elsewhere);
-    line(b"damaged jobs: ", counts.damaged);
-    line(b"buffers a byte short: ", counts.short);
-    line(b"differences: ", counts.differences);
-    line(b"plans that are no valid schedule: ", counts.invalid);
+fn print_found(rt: &impl Print, counts: Counts) -> io::Result<()> {
+    line(rt, "refusals of a board other than 0: ", counts.elsewhere)?;
+    line(rt, "damaged jobs: ", counts.damaged)?;
+    line(rt, "buffers a byte short: ", counts.short)?;
+    line(rt, "differences: ", counts.differences)?;
+    line(rt, "plans that are no valid schedule: ", counts.invalid)
 }
 
-fn print_play_limits(lists: Compared) {
-    line(b"plays of 128 boards: ", lists.widest);
-    line(b"plays with more than 65536 columns: ", lists.longest);
-    line(b"plays with sends and a load of 4095: ", lists.loads);
-    line(b"plays with sends and a cost of 8000: ", lists.costs);
-    line(b"plays with a finish past 16 bits: ", lists.late);
+fn print_play_limits(rt: &impl Print, lists: Compared) -> io::Result<()> {
+    line(rt, "plays of 128 boards: ", lists.widest)?;
+    line(rt, "plays with more than 65536 columns: ", lists.longest)?;
+    line(rt, "plays with sends and a load of 4095: ", lists.loads)?;
+    line(rt, "plays with sends and a cost of 8000: ", lists.costs)?;
+    line(rt, "plays with a finish past 16 bits: ", lists.late)
 }
 
-fn print_lists(lists: Compared) {
+fn print_lists(rt: &impl Print, lists: Compared) -> io::Result<()> {
     let played = lists.played;
-    numbered(b"plans played of kind ", 1, played[1]);
-    numbered(b"plans played of kind ", 2, played[2]);
-    numbered(b"plans played of kind ", 3, played[3]);
-    line(b"boards compared: ", lists.boards);
-    line(b"columns compared: ", lists.columns);
-    line(b"plays in which a board waits: ", lists.waiting);
-    line(b"plays in which a list wraps: ", lists.wrapped);
-    print_play_limits(lists);
-    line(b"refused 16: ", lists.sixteen);
-    line(b"lists a place short: ", lists.short);
-    line(b"faults of play: ", lists.faults);
-    line(b"differences in columns: ", lists.differences);
+    numbered(rt, "plans played of kind ", 1, played[1])?;
+    numbered(rt, "plans played of kind ", 2, played[2])?;
+    numbered(rt, "plans played of kind ", 3, played[3])?;
+    line(rt, "boards compared: ", lists.boards)?;
+    line(rt, "columns compared: ", lists.columns)?;
+    line(rt, "plays in which a board waits: ", lists.waiting)?;
+    line(rt, "plays in which a list wraps: ", lists.wrapped)?;
+    print_play_limits(rt, lists)?;
+    line(rt, "refused 16: ", lists.sixteen)?;
+    line(rt, "lists a place short: ", lists.short)?;
+    line(rt, "faults of play: ", lists.faults)?;
+    line(rt, "differences in columns: ", lists.differences)
 }
 
-fn main() {
+fn main(rt: HostRuntime) -> io::Result<()> {
     let mut mine = [UNTOUCHED; 65535];
     let mut theirs = [UNTOUCHED; 65535];
     let mut lists = [listing::EMPTY; LISTS];
     let counts = compare_all(&mut mine, &mut theirs, &mut lists);
     let refused = counts.refused;
     let columns = counts.lists;
-    print_rings(counts);
-    print_limits(counts);
-    print_refusals(refused);
-    print_found(counts);
-    print_lists(columns);
+    print_rings(&rt, counts)?;
+    print_limits(&rt, counts)?;
+    print_refusals(&rt, refused)?;
+    print_found(&rt, counts)?;
+    print_lists(&rt, columns)
 }

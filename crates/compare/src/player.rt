@@ -42,7 +42,7 @@ pub(crate) const LISTS: usize = ROWS as usize + 2 * 128 * SENDS as usize + COLUM
 const NONE: u32 = u32::MAX;
 
 // A record's send: the board that sends and the one that receives, the place of what is under way, and the direction.
-#[derive(Drop)]
+#[derive(Clone, Copy)]
 struct Send {
     from: usize,
     to: usize,

@@ -19,7 +19,7 @@ const LEAST_COST: [u16; 6] = [1, 1, 1, 1, 1, 8000];
 const COSTS: [u16; 6] = [10, 1, 9, 40, 8000, 1];
 
 // How a ring is drawn. The boards with the surplus are `width` boards from board `mark` on.
-#[derive(Drop)]
+#[derive(Clone, Copy)]
 struct Style {
     kind: u8,
     loads: usize,
@@ -30,7 +30,7 @@ struct Style {
 }
 
 // A ring's numbers.
-#[derive(Drop)]
+#[derive(Clone, Copy)]
 pub(crate) struct Drawn {
     pub(crate) kind: u8,
     pub(crate) n: usize,

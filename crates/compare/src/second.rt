@@ -9,7 +9,7 @@ use std::num::{wrapping_add_u32, wrapping_add_usize, wrapping_sub_u32};
 const RAISED: u32 = 2147483648;
 
 // The refusal's number and board, or number 0 and the plan's finish, moves and tight link.
-#[derive(Drop)]
+#[derive(Clone, Copy)]
 pub(crate) struct Answer {
     pub(crate) number: u8,
     pub(crate) board: u8,
@@ -27,7 +27,7 @@ pub(crate) struct Answer {
 }
 
 // S raised, the least and the greatest, and the largest |surplus|.
-#[derive(Drop)]
+#[derive(Clone, Copy)]
 struct Sums {
     each: [u32; 128],
     low: u32,
@@ -37,7 +37,7 @@ struct Sums {
 
 // A board in play and its link: the sends that are left, all of one direction, the end of the last one, the ticks that the link was busy so far, and
 // the place of the next record.
-#[derive(Drop)]
+#[derive(Clone, Copy)]
 struct Board {
     load: u32,
     cost: u32,
@@ -50,7 +50,7 @@ struct Board {
 }
 
 // The boards as a play begins, the moves, and the most that a link carries.
-#[derive(Drop)]
+#[derive(Clone, Copy)]
 struct Ring {
     boards: [Board; 128],
     moves: u32,
@@ -221,8 +221,8 @@ fn after(i: usize, n: usize) -> usize
 }
 
 // A one-way ring, from a tick at which something ends to the next: what starts, and then what arrives. Each turn after the first comes at an
-// end of a send, so there are no more turns than sends until the last one starts. The loops over the boards stand in it, since boards can't
-// be lent, and copying them at every turn is slow.
+// end of a send, so there are no more turns than sends until the last one starts. The loops over the boards stand in it, since copying the
+// boards at every turn is slow.
 fn play(ring: Ring, n: usize, buf: &mut [u8]) -> Ring
     requires { n ≤ 128 }
 {

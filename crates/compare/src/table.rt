@@ -15,7 +15,7 @@ const UNREFUSED: u32 = 6144;
 
 // A job's refusal, number 0 where there is none, and its numbers, 0 past the end of its bytes: as many boards as it says, 128 at most. The
 // load after is a number in two's complement.
-#[derive(Drop)]
+#[derive(Clone, Copy)]
 pub(crate) struct Job {
     pub(crate) number: u8,
     pub(crate) board: u8,
