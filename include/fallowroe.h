@@ -1,8 +1,8 @@
 /* Fallowroe for C: jobs, plans, loads and columns of ring machines, on numbers and lent buffers.
  *
  * Five functions of one proved library, libcapi.a (`rt lib` in crates/capi makes it, for x86-64 Linux; scripts/c-example puts it into
- * target/staticlib). They need memcpy and
- * memset and nothing else, keep nothing between calls, and may be called from any number of threads.
+ * target/staticlib). They need memcpy and memset and nothing else, keep nothing between calls, and may be called from any number
+ * of threads.
  *
  * The convention, the same for all five and for every input:
  *
