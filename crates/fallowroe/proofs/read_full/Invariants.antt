@@ -1,0 +1,9 @@
+-- `read_full`: what stands in the buffer fits it, and the room that is left shrinks with each read.
+use Rattle.std.proofs.Common.{◌≤◌, ◌-◌, length}
+use Rattle.fallowroe.proofs.read_full.Given as goal
+
+abbrev pub invariant-loop-done : goal.invariant-loop-done
+invariant-loop-done g l = l.done ≤ length l.buf
+
+abbrev pub decreases-loop-done : goal.decreases-loop-done
+decreases-loop-done g l = length l.initial.buf - l.done
