@@ -52,8 +52,8 @@ struct Counts {
 }
 
 fn least(a: usize, b: usize) -> usize
-    ensures upper_bound { result ≤ a }
-    ensures upper_bound_2 { result ≤ b }
+    ensures within_a { result ≤ a }
+    ensures within_b { result ≤ b }
 {
     if a < b { a } else { b }
 }

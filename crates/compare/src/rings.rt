@@ -131,7 +131,7 @@ fn at_rest(seed: &mut u64, style: Style, n: usize) -> Drawn
 fn with_surplus(ring: Drawn, from: usize, to: usize, items: u16) -> Drawn
     requires from_bound { from < 128 }
     requires to_bound { to < 128 }
-    requires bound { items ≤ 4095 }
+    requires items_bound { items ≤ 4095 }
 {
     let here = ring.afters[from];
     let there = ring.afters[to];
