@@ -71,7 +71,7 @@ pub tell-requires : goal.tell-requires
 tell-requires c =
     let p = (goal.at.tell-requires c).In-Plan in
     let t = counted p in
-    (t.few, omega (arith, t.few), listed p, rw c.counts_by-counts.ensures t.covered)
+    (omega (arith, t.few), omega (arith, t.few), omega (arith, listed p), rw c.counts_by-counts.ensures t.covered)
 
 pub returns : goal.returns
 returns c =
