@@ -11,7 +11,7 @@ use Rattle.hop.proofs.job_length.Kinds as job-length
 use Rattle.hop.proofs.job_length.Reads as job-length-said
 use Rattle.hop.proofs.reader.checked.Kinds as checked
 use Rattle.hop.proofs.reader.checked.Reads as checked-said
-use Rattle.hop.proofs.reader.numbers_of.Kinds as Numbers-of
+use Rattle.hop.proofs.reader.numbers_of.Kinds as numbers-of
 use Rattle.hop.proofs.reader.numbers_of.Reads as numbers-of-said
 use Rattle.hop.proofs.reader.read.Kinds as read
 use Rattle.hop.proofs.reader.read.Reads as read-said
@@ -35,7 +35,7 @@ pub one_checked : (κs : Lfts 1) (a : Dens κs checked.ps) (x y : (res_t checked
     → checked-said.Post κs a x s → checked-said.Post κs a y t → x ≡ y
 one_checked κs a x y s t p q = p ∙ sym q
 
-pub one_numbers_of : (κs : Lfts 1) (a : Dens κs Numbers-of.ps) (x y : (res_t Numbers-of.r κs).Denot) (s t : AtExit (ended_of 1 Numbers-of.ps Numbers-of.r) κs)
+pub one_numbers_of : (κs : Lfts 1) (a : Dens κs numbers-of.ps) (x y : (res_t numbers-of.r κs).Denot) (s t : AtExit (ended_of 1 numbers-of.ps numbers-of.r) κs)
     → numbers-of-said.Post κs a x s → numbers-of-said.Post κs a y t → x ≡ y
 one_numbers_of κs a x y s t p q = p ∙ sym q
 

@@ -54,8 +54,8 @@ fn word(s: &[u8], k: usize) -> u32
 
 // What each of n boards has received and sent by a tick, of the sends that a plan's records say.
 fn counts_by(plan: &[u8], moves: u32, n: usize, costs: &[u16], tick: u32) -> Counts
-    requires n_bound { (n ≤ 128) × (n ≤ length costs.now) × (record_place moves ≤ length plan.now) }
-    requires by_index { (k : ℕ) → k < moves → get_or plan.now (record_place k) 0 < n }
+    requires lengths { (n ≤ 128) × (n ≤ length costs.now) × (record_place moves ≤ length plan.now) }
+    requires links_below { (k : ℕ) → k < moves → get_or plan.now (record_place k) 0 < n }
     ensures { result ≡ counts_of (links_in n costs.now) (records_in plan.now moves) tick }
 {
     let mut received = [0u32; MOST_BOARDS];

@@ -1,4 +1,4 @@
--- What the numbers of a ring's plan say of its links: in a two-way ring their records, in a one_way ring that one carries nothing. Assumes nothing.
+-- What the numbers of a ring's plan say of its links: in a two-way ring their records, in a one-way ring that one carries nothing. Assumes nothing.
 use mathlib.Core.Path.{◌≡◌, sym, ap, subst, ◌∙◌}
 use mathlib.Core.Logic.{inl, inr}
 use mathlib.Core.List.{List, ◌++◌}

@@ -31,8 +31,8 @@ struct Feed {
 
 // A link of a two-way ring: forward from tick 0 on, or back up to the last round.
 fn put_two_way(part: &mut [u8], link: u8, level: u32, offset: u32, rounds: u32, cost: u16)
-    requires offset_in_bounds { 6 * between level offset ≤ length part.old }
-    requires level_bound { (offset - level ≤ rounds) × (rounds * cost < 4294967296) }
+    requires fits { 6 * between level offset ≤ length part.old }
+    requires in_time { (offset - level ≤ rounds) × (rounds * cost < 4294967296) }
     ensures { part.new ≡ link_bytes link (direction_by level offset) (start_two level offset rounds cost) (between level offset) ++ drop (6 * between level offset) part.old }
 {
     if level < offset {
@@ -47,7 +47,7 @@ fn put_two_way(part: &mut [u8], link: u8, level: u32, offset: u32, rounds: u32, 
 // The links of a two-way ring, each in the part that begins at its offset.
 fn put_two_ways(buf: &mut [u8], n: usize, surpluses: &[i16], costs: &[u16], o: Outline)
     requires both_ways { BothWays n surpluses.now costs.now o }
-    requires n_in_bounds { 15 + 6 * sum (carries_by o.total surpluses.now o.offset) n ≤ length buf.old }
+    requires fits { 15 + 6 * sum (carries_by o.total surpluses.now o.offset) n ≤ length buf.old }
     ensures { buf.new ≡ two_way_after n surpluses.now costs.now o buf.old }
 {
     let rounds = o.rounds;
@@ -154,8 +154,8 @@ pub(crate) fn put_links(
     o: Outline,
 )
     requires lent { Lent kind n loads.now surpluses.now costs.now × (o ≡ outline_of (ring_in kind n loads.now surpluses.now costs.now)) }
-    requires costs_bound { finish_of (ring_in kind n loads.now surpluses.now costs.now) (offset (ring_in kind n loads.now surpluses.now costs.now)) < 4294967296 }
-    requires costs_in_bounds { plan_length (ring_in kind n loads.now surpluses.now costs.now) ≤ length buf.old }
+    requires in_time { finish_of (ring_in kind n loads.now surpluses.now costs.now) (offset (ring_in kind n loads.now surpluses.now costs.now)) < 4294967296 }
+    requires fits { plan_length (ring_in kind n loads.now surpluses.now costs.now) ≤ length buf.old }
     ensures { buf.new ≡ links_after (ring_in kind n loads.now surpluses.now costs.now) buf.old }
 {
     if kind == 3 {

@@ -53,8 +53,8 @@ pub(crate) fn put_record(part: &mut [u8], link: u8, direction: u8, start: u64)
 // The records of `count` sends of a link, the first at tick `first` and each other `step` ticks after the one before, at the front of
 // a part.
 pub(crate) fn put_run(part: &mut [u8], link: u8, direction: u8, count: u32, first: u64, step: u16)
-    requires count_in_bounds { 6 * count ≤ length part.old }
-    requires first_bound { 0 < count → first < 4294967296 }
+    requires fits { 6 * count ≤ length part.old }
+    requires first_in_time { 0 < count → first < 4294967296 }
     ensures { part.new ≡ link_bytes link direction (λ x. first + x * step) count ++ drop (6 * count) part.old }
 {
     let n = count as usize;

@@ -146,8 +146,8 @@ fn with_link(tally: Tally, i: usize, items: u32, time: Ticks) -> Tally
 
 // What n links carry, each the difference of its level and the offset, and the slowest of them.
 fn tally_of(n: usize, surpluses: &[i16], costs: &[u16], total: u32, offset: u32) -> Tally
-    requires le_n { (1 ≤ n) × (n ≤ 128) × (n ≤ length costs.now) × Levels n total surpluses.now }
-    requires by_index { (i : ℕ) → i < n → carries_by total surpluses.now offset i ≤ 128 * most_load }
+    requires lengths { (1 ≤ n) × (n ≤ 128) × (n ≤ length costs.now) × Levels n total surpluses.now }
+    requires items_few { (i : ℕ) → i < n → carries_by total surpluses.now offset i ≤ 128 * most_load }
     ensures { result ≡ tally_of total surpluses.now n offset costs.now }
 {
     let mut level = total;

@@ -5,7 +5,7 @@ use contract.Lifetimes.{Lfts}
 use denote.Triple.Clauses.{AtExit}
 use Rattle.ring.proofs.link_time.Kinds as link-time
 use Rattle.ring.proofs.link_time.Reads as link-time-said
-use Rattle.ring.proofs.end_of.Kinds as end_of_lem
+use Rattle.ring.proofs.end_of.Kinds as end-of
 use Rattle.ring.proofs.end_of.Reads as end-of-said
 use Rattle.ring.proofs.quad.Kinds as quad
 use Rattle.ring.proofs.quad.Reads as quad-said
@@ -27,7 +27,7 @@ pub one_fault : (κs : Lfts 0) (a : Dens κs fault.ps) (x y : (res_t fault.r κs
     → fault-said.Post κs a x s → fault-said.Post κs a y t → x ≡ y
 one_fault κs a x y s t p q = p ∙ sym q
 
-pub one_end_of : (κs : Lfts 0) (a : Dens κs end_of_lem.ps) (x y : (res_t end_of_lem.r κs).Denot) (s t : AtExit (ended_of 0 end_of_lem.ps end_of_lem.r) κs)
+pub one_end_of : (κs : Lfts 0) (a : Dens κs end-of.ps) (x y : (res_t end-of.r κs).Denot) (s t : AtExit (ended_of 0 end-of.ps end-of.r) κs)
     → end-of-said.Post κs a x s → end-of-said.Post κs a y t → x ≡ y
 one_end_of κs a x y s t p q = λ i. record { 0 = (p ∙ sym q) i }
 

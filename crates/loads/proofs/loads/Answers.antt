@@ -65,7 +65,7 @@ returns-in_default c =
 pub counts_by-counts-requires : goal.counts_by-counts-requires
 counts_by-counts-requires c =
     let t = counted (goal.at.counts_by-counts-requires c).In-Plan in
-    record { n_bound = (t.few, omega (arith, t.few, t.costs_long), t.placed); by_index = t.linked }
+    record { lengths = (t.few, omega (arith, t.few, t.costs_long), t.placed); links_below = t.linked }
 
 pub tell-requires : goal.tell-requires
 tell-requires c =

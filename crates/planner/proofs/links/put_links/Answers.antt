@@ -24,8 +24,8 @@ put_two_ways-requires c =
     let lent = c.requires.lent.0 in
     let is = c.requires.lent.1 in
     record {
-      both_ways = two_way lent c.args.o is c.if-kind-eq3.true c.requires.costs_bound;
-      n_in_bounds = omega (arith, c.requires.costs_in_bounds, room_is lent c.args.o is);
+      both_ways = two_way lent c.args.o is c.if-kind-eq3.true c.requires.in_time;
+      fits = omega (arith, c.requires.fits, room_is lent c.args.o is);
     }
 
 pub returns-then-kind-eq3 : goal.returns-then-kind-eq3
@@ -47,7 +47,7 @@ loop-k-init c =
     record {
       from = omega arith;
       gone =
-          set_out r (offset r) lent.accepted (one (goal.at.loop-k-init c).Else-kind-eq3) c.requires.costs_bound a.buf.now c.idle_of-here.result i.0
+          set_out r (offset r) lent.accepted (one (goal.at.loop-k-init c).Else-kind-eq3) c.requires.in_time a.buf.now c.idle_of-here.result i.0
           (sym (carries_are lent a.o is c.idle_of-here.result.link i.0) ∙ i.1) (i.2 ∙ ap record_place (sums_are lent a.o is c.idle_of-here.result.link (omega (arith, i.0))));
     }
 
@@ -69,7 +69,7 @@ module _ (c : In-loop-k) where
   after_here = next_below ring.n c.loop-k.here.link c.loop-k.invariant.gone.link
 
   roomy : place_of ring (offset ring) ring.n ≤ length c.args.buf.now
-  roomy = omega (arith, c.requires.costs_in_bounds, place_last ring (offset ring) lent.accepted goes c.requires.costs_bound)
+  roomy = omega (arith, c.requires.fits, place_last ring (offset ring) lent.accepted goes c.requires.in_time)
 
 pub bounds-costs-link : goal.bounds-costs-link
 bounds-costs-link c = omega (arith, c.loop-k.invariant.gone.link, c.requires.lent.0.costs_long)
@@ -78,7 +78,7 @@ pub place_after-here-requires : goal.place_after-here-requires
 place_after-here-requires c =
     let t = (goal.at.place_after-here-requires c).In-loop-k in
     let g = c.loop-k.invariant.gone in
-    (g.link, omega (arith, g.at, g.count_is, short (ring t) (offset (ring t)) (lent t).accepted (goes t) c.requires.costs_bound c.loop-k.here.link g.link))
+    (g.link, omega (arith, g.at, g.count_is, short (ring t) (offset (ring t)) (lent t).accepted (goes t) c.requires.in_time c.loop-k.here.link g.link))
 
 -- the link after, as the code has it
 module _ (c : In-loop-k) (there : Place) (is : there ≡ place_after c.loop-k.here c.loop-k.count c.args.n) where
@@ -92,7 +92,7 @@ module _ (c : In-loop-k) (there : Place) (is : there ≡ place_after c.loop-k.he
   leads : pos (carries (ring c) (offset (ring c)) there.link) ≡ pos c.loop-k.count +ℤ each_ℤ c.args.surpluses.now there.link
   leads =
       subst (λ (l : ℕ). pos (carries (ring c) (offset (ring c)) l) ≡ pos c.loop-k.count +ℤ each_ℤ c.args.surpluses.now l) (sym link_is)
-      (count_next (ring c) (offset (ring c)) (lent c).accepted (goes c) c.requires.costs_bound c.loop-k.invariant.gone c.idle_of-here.ensures.0 (left c)
+      (count_next (ring c) (offset (ring c)) (lent c).accepted (goes c) c.requires.in_time c.loop-k.invariant.gone c.idle_of-here.ensures.0 (left c)
       (each_ℤ c.args.surpluses.now (next (ring c).n c.loop-k.here.link)) ((lent c).after_is (next (ring c).n c.loop-k.here.link) (after_here c)))
 
 pub bounds-surpluses-i : goal.bounds-surpluses-i
@@ -138,7 +138,7 @@ put_one_way-requires c =
     let there = c.place_after-here.result in
     let is = c.place_after-here.ensures in
     let many = count_is t there is c.risen-count.result c.risen-count.ensures (search rules) in
-    fed_next (ring t) (offset (ring t)) (lent t).accepted (goes t) c.requires.costs_bound c.loop-k.invariant.gone c.idle_of-here.ensures.0 (left t)
+    fed_next (ring t) (offset (ring t)) (lent t).accepted (goes t) c.requires.in_time c.loop-k.invariant.gone c.idle_of-here.ensures.0 (left t)
     there is c.risen-count.result many (feeding t there is) (feeding_is t there is) (roomy t)
 
 pub loop-k-preserved : goal.loop-k-preserved
@@ -153,7 +153,7 @@ loop-k-preserved c =
       from = omega arith;
       gone =
           rw e
-          (gone_on (ring t) (offset (ring t)) (lent t).accepted (goes t) c.requires.costs_bound c.loop-k.invariant.gone c.idle_of-here.ensures.0 (left t)
+          (gone_on (ring t) (offset (ring t)) (lent t).accepted (goes t) c.requires.in_time c.loop-k.invariant.gone c.idle_of-here.ensures.0 (left t)
           there is c.risen-count.result many (feeding t there is) (feeding_is t there is)
           ((ring t).cost there.link) (ap (ring t).cost (link_is t there is)) (roomy t) c.put_one_way.new.buf c.put_one_way.ensures);
     }
@@ -161,5 +161,5 @@ loop-k-preserved c =
 pub returns : goal.returns
 returns c =
     let r = ring_in c.args.kind c.args.n c.args.loads.now c.args.surpluses.now c.args.costs.now in
-    gone_round r (offset r) c.requires.lent.0.accepted (one (goal.at.returns c).Else-kind-eq3) c.requires.costs_bound c.loop-k.invariant.gone c.idle_of-here.ensures.0
+    gone_round r (offset r) c.requires.lent.0.accepted (one (goal.at.returns c).Else-kind-eq3) c.requires.in_time c.loop-k.invariant.gone c.idle_of-here.ensures.0
     (omega (arith, c.loop-k.invariant.from, c.loop-k.auto.k-end))

@@ -17,13 +17,13 @@ loop-i-init c =
     let a = c.args in
     record {
       level = omega arith;
-      links = none_yet (two_bytes a.surpluses.now a.costs.now a.o.total a.o.offset a.o.rounds.0) (carries_by a.o.total a.surpluses.now a.o.offset) a.buf.now (omega (arith, c.requires.n_in_bounds));
+      links = none_yet (two_bytes a.surpluses.now a.costs.now a.o.total a.o.offset a.o.rounds.0) (carries_by a.o.total a.surpluses.now a.o.offset) a.buf.now (omega (arith, c.requires.fits));
     }
 
 -- the records of link i fit
 room : (c : In-loop-i) → c.loop-i.at + 6 * carries_by c.args.o.total c.args.surpluses.now c.args.o.offset c.loop-i.i ≤ length c.args.buf.now
 room c =
-    omega (arith, sum_within (carries_by c.args.o.total c.args.surpluses.now c.args.o.offset) c.loop-i.i c.args.n c.loop-i-test.true, c.loop-i.invariant.links.up_to, c.requires.n_in_bounds)
+    omega (arith, sum_within (carries_by c.args.o.total c.args.surpluses.now c.args.o.offset) c.loop-i.i c.args.n c.loop-i-test.true, c.loop-i.invariant.links.up_to, c.requires.fits)
 
 pub risen-level-requires : goal.risen-level-requires
 risen-level-requires c = may_rise c.requires.both_ways.levels c.loop-i.i c.loop-i-test.true c.loop-i.invariant.level (search rules)
@@ -37,8 +37,8 @@ put_two_way-requires c =
     let w = goal.at.put_two_way-requires c in
     rw (level_is w.After-risen-level)
     (record {
-      offset_in_bounds = simp (length-take, length-drop) (omega (arith, room w.In-loop-i, c.loop-i.invariant.links.front.same));
-      level_bound = c.requires.both_ways.within c.loop-i.i c.loop-i-test.true;
+      fits = simp (length-take, length-drop) (omega (arith, room w.In-loop-i, c.loop-i.invariant.links.front.same));
+      in_time = c.requires.both_ways.within c.loop-i.i c.loop-i-test.true;
     })
 
 pub loop-i-preserved : goal.loop-i-preserved

@@ -23,13 +23,13 @@ rounds-rounds-requires c =
     let levels = levels_of c.requires c.total-total.result c.total-total.ensures in
     (omega (arith, c.requires.accepted.boards), levels, (spanned (goal.at.rounds-rounds-requires c).After-span_of-span).1)
 
-pub tally_of-tally-requires-clause-le_n : goal.tally_of-tally-requires-clause-le_n
-tally_of-tally-requires-clause-le_n c =
+pub tally_of-tally-requires-clause-lengths : goal.tally_of-tally-requires-clause-lengths
+tally_of-tally-requires-clause-lengths c =
     let boards = c.requires.accepted.boards in
     (omega (arith, boards), omega (arith, boards), c.requires.costs_long, levels_of c.requires c.total-total.result c.total-total.ensures)
 
-pub tally_of-tally-requires-clause-by_index : goal.tally_of-tally-requires-clause-by_index
-tally_of-tally-requires-clause-by_index c =
+pub tally_of-tally-requires-clause-items_few : goal.tally_of-tally-requires-clause-items_few
+tally_of-tally-requires-clause-items_few c =
     carried_most c.requires c.total-total.result c.total-total.ensures c.span_of-span.result c.span_of-span.ensures c.offset-offset.result c.offset-offset.ensures
 
 pub returns : goal.returns

@@ -15,13 +15,13 @@ loop-i-init c = (omega arith, refl, omega arith, refl, refl)
 pub risen-level-requires : goal.risen-level-requires
 risen-level-requires c =
     let read : FitsSigned w16 (each_ℤ c.args.surpluses.now c.loop-i.i) = search rules in
-    may_rise c.requires.le_n.3 c.loop-i.i c.loop-i-test.true c.loop-i.invariant.0 read.sfits
+    may_rise c.requires.lengths.3 c.loop-i.i c.loop-i-test.true c.loop-i.invariant.0 read.sfits
 
 -- the next level, and what its link carries
 rise : (c : After-apart-items) → c.risen-level.result ≡ before c.args.total c.args.surpluses.now (suc c.loop-i.i)
 rise c =
     let read : FitsSigned w16 (each_ℤ c.args.surpluses.now c.loop-i.i) = search rules in
-    c.risen-level.ensures ∙ rises c.requires.le_n.3 c.loop-i.i c.loop-i-test.true c.loop-i.invariant.0 read.sfits
+    c.risen-level.ensures ∙ rises c.requires.lengths.3 c.loop-i.i c.loop-i-test.true c.loop-i.invariant.0 read.sfits
 
 carried : (c : After-apart-items) → c.apart-items.result ≡ carries_by c.args.total c.args.surpluses.now c.args.offset c.loop-i.i
 carried c = c.apart-items.ensures ∙ (λ t. between (rise c t) c.args.offset)
@@ -37,7 +37,7 @@ loop-i-preserved c =
     let with = c.with_link-tally.ensures in (
       rw add-one (rise a),
       rw (add-one, sum) (with.moves_value ∙ (λ k. c.loop-i.invariant.1 k + is k)),
-      omega (arith, with.moves_value, is, c.requires.by_index i c.loop-i-test.true),
+      omega (arith, with.moves_value, is, c.requires.items_few i c.loop-i-test.true),
       rw (add-one, summit) (with.tight_value ∙ (λ k. pick (ltb (c.loop-i.invariant.4 k) (ticks k)) i (c.loop-i.invariant.3 k))),
       rw (add-one, highest) (with.slowest_value ∙ (λ k. max (c.loop-i.invariant.4 k) (ticks k))),
     )
@@ -47,6 +47,6 @@ returns c =
     let g = time_by c.args.total c.args.surpluses.now c.args.offset c.args.costs.now in
     let e : c.loop-i.i ≡ c.args.n = omega arith in
     let inv = rw e at c.loop-i.invariant in
-    let tight = inv.3 ∙ summit_is g c.args.n c.requires.le_n.0 in
-    let slowest = inv.4 ∙ highest_is g c.args.n c.requires.le_n.0 in
+    let tight = inv.3 ∙ summit_is g c.args.n c.requires.lengths.0 in
+    let slowest = inv.4 ∙ highest_is g c.args.n c.requires.lengths.0 in
     λ t. record { moves = record { 0 = inv.1 t }; tight = tight t; slowest = record { 0 = slowest t } }
