@@ -33,7 +33,7 @@ pub fn quad(a: u8, b: u8, c: u8, d: u8) -> u32
 }
 
 // A board's numbers, which only `new` puts together, within the limits. Its link is the one to the next board.
-#[derive(Drop)]
+#[derive(Clone, Copy)]
 pub struct Board {
     load: u16,
     surplus: i16,
@@ -41,7 +41,7 @@ pub struct Board {
 }
 
 // A board, or which of its numbers is outside its limits.
-#[derive(Drop)]
+#[derive(Clone, Copy)]
 pub enum Made {
     Sound(Board),
     Load,
