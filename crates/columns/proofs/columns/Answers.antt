@@ -21,14 +21,12 @@ buffer c =
     c.plan_for-planned.ensures.buf_after ∙ ap (λ (k : ℕ). list_plan 16 k job (length c.args.list.now) c.args.buf.now) (columns_run job c.turn_of-turn.ensures)
 
 -- a plan was answered
-module _ (c : In-Plan) where
+module _ (c : In-Plan) (answered : c.plan_for-planned.result ≡ columns_answer (job_of c.args.s.now) (length c.args.buf.now) (length c.args.list.now)) where
   abbrev job : Job
   job = job_of c.args.s.now
 
   allowed : Let 16 (columns_in job job.answer) job (columns_by job job.answer) c.args.buf.now c.args.list.now c.in-Plan.finish c.in-Plan.moves c.in-Plan.tight
-  allowed =
-      let all = ap (λ (k : ℕ). list_answer 16 k job (length c.args.buf.now) (length c.args.list.now)) (columns_run job c.turn_of-turn.ensures) in
-      let_through 16 _ job _ c.args.buf.now c.args.list.now (sym (c.plan_for-planned.ensures.value ∙ all) ∙ c.in-Plan.is)
+  allowed = let_through 16 _ job _ c.args.buf.now c.args.list.now (sym answered ∙ c.in-Plan.is)
 
   laid : Turned job c.turn_of-turn.result
   laid = turned c.args.s.now (length c.args.buf.now) allowed.given c.turn_of-turn.ensures
@@ -45,11 +43,13 @@ returns-in_default c =
 
 pub lay-requires : goal.lay-requires
 lay-requires c =
-    let t = (goal.at.lay-requires c).In-Plan in
-    (omega (arith, (laid t).below), omega (arith, columns_run (job t) c.turn_of-turn.ensures, (allowed t).enough))
+    let w = goal.at.lay-requires c in
+    let e = answer w.After-plan_for-planned in
+    (omega (arith, (laid w.In-Plan e).below), omega (arith, columns_run (job w.In-Plan e) c.turn_of-turn.ensures, (allowed w.In-Plan e).enough))
 
 pub returns : goal.returns
 returns c =
     let w = goal.at.returns c in
-    let t = w.In-Plan in
-    record { value = answer w.After-plan_for-planned; buf_after = buffer w.After-plan_for-planned; list_after = c.lay.ensures ∙ (laid t).laid c.args.list.now ∙ (allowed t).fills }
+    let p = w.After-plan_for-planned in
+    let e = answer p in
+    record { value = e; buf_after = buffer p; list_after = c.lay.ensures ∙ (laid w.In-Plan e).laid c.args.list.now ∙ (allowed w.In-Plan e).fills }

@@ -51,6 +51,3 @@ loop-i-preserved c =
       place = rw (add-one, sum) (omega (arith, level_is v, above v, c.loop-i.invariant.place));
       none = λ j h e. elim (le_lt i j) [ inl p ↦ let q : j ≡ i = omega arith in c.if-level-offset.false (level_is v ∙ (rw q at e)) | inr p ↦ c.loop-i.invariant.none j p e ];
     }
-
-pub returns : goal.returns
-returns c = let (i, h, e) = c.requires.some in absurd (c.loop-i.invariant.none i (omega arith) e)

@@ -17,7 +17,7 @@ use Rattle.planner.proofs.SumRisen.{may_lead, led}
 use Rattle.planner.proofs.Outlined.{room_is, two_way, two_records, one_way, idle_ring, sums_are, carries_are}
 use Rattle.planner.proofs.Round.{place_of, place_last, short, set_out, count_next, fed_next, gone_on, gone_round}
 use Rattle.planner.proofs.links.put_links.Goals as goal
-use Rattle.planner.proofs.links.put_links.Goals.{Else-kind-eq3, In-loop-k, After-place_after-here, After-risen-count}
+use Rattle.planner.proofs.links.put_links.Goals.{In-loop-k}
 
 pub put_two_ways-requires : goal.put_two_ways-requires
 put_two_ways-requires c =
@@ -34,9 +34,6 @@ returns-then-kind-eq3 c = c.put_two_ways.ensures ∙ two_records c.requires.lent
 pub idle_of-here-requires : goal.idle_of-here-requires
 idle_of-here-requires c = idle_ring c.requires.lent.0 c.args.o c.requires.lent.1 c.if-kind-eq3.false
 
-one : (c : Else-kind-eq3) → One (ring_in c.args.kind c.args.n c.args.loads.now c.args.surpluses.now c.args.costs.now) (offset (ring_in c.args.kind c.args.n c.args.loads.now c.args.surpluses.now c.args.costs.now))
-one c = one_way c.requires.lent.0 c.args.o c.requires.lent.1 c.if-kind-eq3.false
-
 pub loop-k-init : goal.loop-k-init
 loop-k-init c =
     let a = c.args in
@@ -47,7 +44,7 @@ loop-k-init c =
     record {
       from = omega arith;
       gone =
-          set_out r (offset r) lent.accepted (one (goal.at.loop-k-init c).Else-kind-eq3) c.requires.in_time a.buf.now c.idle_of-here.result i.0
+          set_out r (offset r) lent.accepted (one_way lent a.o is c.if-kind-eq3.false) c.requires.in_time a.buf.now c.idle_of-here.result i.0
           (sym (carries_are lent a.o is c.idle_of-here.result.link i.0) ∙ i.1) (i.2 ∙ ap record_place (sums_are lent a.o is c.idle_of-here.result.link (omega (arith, i.0))));
     }
 
@@ -71,9 +68,6 @@ module _ (c : In-loop-k) where
   roomy : place_of ring (offset ring) ring.n ≤ length c.args.buf.now
   roomy = omega (arith, c.requires.fits, place_last ring (offset ring) lent.accepted goes c.requires.in_time)
 
-pub bounds-costs-link : goal.bounds-costs-link
-bounds-costs-link c = omega (arith, c.loop-k.invariant.gone.link, c.requires.lent.0.costs_long)
-
 pub place_after-here-requires : goal.place_after-here-requires
 place_after-here-requires c =
     let t = (goal.at.place_after-here-requires c).In-loop-k in
@@ -85,18 +79,12 @@ module _ (c : In-loop-k) (there : Place) (is : there ≡ place_after c.loop-k.he
   link_is : there.link ≡ next (ring c).n c.loop-k.here.link
   link_is = ap (λ (p : Place). p.link) is
 
-  link_here : there.link < c.args.n
-  link_here = omega (arith, link_is, after_here c)
-
   -- the surplus of its board leads to what it carries
   leads : pos (carries (ring c) (offset (ring c)) there.link) ≡ pos c.loop-k.count +ℤ each_ℤ c.args.surpluses.now there.link
   leads =
       subst (λ (l : ℕ). pos (carries (ring c) (offset (ring c)) l) ≡ pos c.loop-k.count +ℤ each_ℤ c.args.surpluses.now l) (sym link_is)
       (count_next (ring c) (offset (ring c)) (lent c).accepted (goes c) c.requires.in_time c.loop-k.invariant.gone c.idle_of-here.ensures.0 (left c)
       (each_ℤ c.args.surpluses.now (next (ring c).n c.loop-k.here.link)) ((lent c).after_is (next (ring c).n c.loop-k.here.link) (after_here c)))
-
-pub bounds-surpluses-i : goal.bounds-surpluses-i
-bounds-surpluses-i c = omega (arith, link_here (goal.at.bounds-surpluses-i c).In-loop-k c.place_after-here.result c.place_after-here.ensures, c.requires.lent.0.surpluses_long)
 
 pub risen-count-requires : goal.risen-count-requires
 risen-count-requires c =
@@ -107,12 +95,6 @@ risen-count-requires c =
       omega (arith, g.count_is, carries_most (ring t) ok (offset (ring t)) (fits (ring t) ok) c.loop-k.here.link g.link, items_most (ring t) ok),
       may_lead c.loop-k.count (carries (ring t) (offset (ring t)) there.link) (each_ℤ c.args.surpluses.now there.link) (leads t there c.place_after-here.ensures) (search rules),
     )
-
-pub bounds-loads-i : goal.bounds-loads-i
-bounds-loads-i c = omega (arith, link_here (goal.at.bounds-loads-i c).In-loop-k c.place_after-here.result c.place_after-here.ensures, c.requires.lent.0.loads_long)
-
-pub bounds-costs-i : goal.bounds-costs-i
-bounds-costs-i c = omega (arith, link_here (goal.at.bounds-costs-i c).In-loop-k c.place_after-here.result c.place_after-here.ensures, c.requires.lent.0.costs_long)
 
 -- what it carries, and what its sends wait for
 module _ (c : In-loop-k) (there : Place) (is : there ≡ place_after c.loop-k.here c.loop-k.count c.args.n) where
@@ -161,5 +143,5 @@ loop-k-preserved c =
 pub returns : goal.returns
 returns c =
     let r = ring_in c.args.kind c.args.n c.args.loads.now c.args.surpluses.now c.args.costs.now in
-    gone_round r (offset r) c.requires.lent.0.accepted (one (goal.at.returns c).Else-kind-eq3) c.requires.in_time c.loop-k.invariant.gone c.idle_of-here.ensures.0
+    gone_round r (offset r) c.requires.lent.0.accepted (one_way c.requires.lent.0 c.args.o c.requires.lent.1 c.if-kind-eq3.false) c.requires.in_time c.loop-k.invariant.gone c.idle_of-here.ensures.0
     (omega (arith, c.loop-k.invariant.from, c.loop-k.auto.k-end))

@@ -6,7 +6,7 @@ use Rattle.ring.specs.Numbers.{sum_ℤ}
 use Rattle.planner.specs.Outline.{before, carries_by, between}
 use Rattle.planner.specs.Links.{two_bytes, link_bytes, direction_by, start_two}
 use Rattle.planner.proofs.Bytes.{link_long}
-use Rattle.planner.proofs.Grow.{none_yet, one_more, all_written, sum_within}
+use Rattle.planner.proofs.Grow.{none_yet, one_more, sum_within}
 use Rattle.planner.proofs.SumLevels.{may_rise, rises}
 use Rattle.planner.proofs.links.put_two_ways.Goals as goal
 use Rattle.planner.proofs.links.put_two_ways.Goals.{In-loop-i, After-risen-level}
@@ -58,8 +58,3 @@ loop-i-preserved c =
       level = rw add-one e;
       links = rw items_are (one_more bytes items a.buf.now c.put_two_way.new.part l.invariant.links (link_long _ _ _ _) (room w.In-loop-i) wrote);
     }
-
-pub returns : goal.returns
-returns c =
-    let a = c.args in
-    all_written (two_bytes a.surpluses.now a.costs.now a.o.total a.o.offset a.o.rounds.0) (carries_by a.o.total a.surpluses.now a.o.offset) a.buf.now a.n (omega arith) c.loop-i.invariant.links

@@ -1,7 +1,6 @@
 -- `sums::largest`: each step between two levels is looked at. Assumes nothing.
-use Rattle.std.proofs.Common.{◌≡◌, ◌∙◌, max, add-one, arith, rules, FitsSigned, w16}
+use Rattle.std.proofs.Common.{◌≡◌, ◌∙◌, max, add-one, arith, rules}
 use Rattle.ring.specs.Numbers.{sum_ℤ}
-use Rattle.ring.specs.Lists.{each_ℤ}
 use Rattle.planner.specs.Outline.{between, step_by}
 use Rattle.planner.proofs.SumLevels.{may_rise, rises}
 use Rattle.planner.proofs.SumWalk.{highest, highest_is}
@@ -13,14 +12,12 @@ loop-i-init c = omega arith
 
 pub risen-level-requires : goal.risen-level-requires
 risen-level-requires c =
-    let read : FitsSigned w16 (each_ℤ c.args.surpluses.now c.loop-i.i) = search rules in
-    may_rise c.requires.1 c.loop-i.i c.loop-i-test.true c.loop-i.invariant.0 read.sfits
+    may_rise c.requires.1 c.loop-i.i c.loop-i-test.true c.loop-i.invariant.0 (search rules)
 
 pub loop-i-preserved : goal.loop-i-preserved
 unfolding highest
 loop-i-preserved c =
-    let read : FitsSigned w16 (each_ℤ c.args.surpluses.now c.loop-i.i) = search rules in
-    let up = c.risen-level.ensures ∙ rises c.requires.1 c.loop-i.i c.loop-i-test.true c.loop-i.invariant.0 read.sfits in
+    let up = c.risen-level.ensures ∙ rises c.requires.1 c.loop-i.i c.loop-i-test.true c.loop-i.invariant.0 (search rules) in
     let far = c.apart.ensures ∙ (λ t. between (c.loop-i.invariant.0 t) (up t)) in
     (rw add-one up, rw (add-one, highest) (c.greater-most.ensures ∙ (λ t. max (c.loop-i.invariant.1 t) (far t))))
 

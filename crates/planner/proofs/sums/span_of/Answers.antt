@@ -1,7 +1,6 @@
 -- `sums::span_of`: each level is raised from the one before, and looked at. Assumes nothing.
-use Rattle.std.proofs.Common.{◌∙◌, min, max, add-one, arith, rules, FitsSigned, w16}
+use Rattle.std.proofs.Common.{◌∙◌, min, max, add-one, arith, rules}
 use Rattle.ring.specs.Numbers.{sum_ℤ, least, greatest}
-use Rattle.ring.specs.Lists.{each_ℤ}
 use Rattle.planner.proofs.SumLevels.{may_rise, rises}
 use Rattle.planner.proofs.sums.span_of.Goals as goal
 
@@ -11,14 +10,12 @@ loop-i-init c = omega arith
 
 pub risen-level-requires : goal.risen-level-requires
 risen-level-requires c =
-    let read : FitsSigned w16 (each_ℤ c.args.surpluses.now c.loop-i.i) = search rules in
-    may_rise c.requires c.loop-i.i c.loop-i-test.true c.loop-i.invariant.0 read.sfits
+    may_rise c.requires c.loop-i.i c.loop-i-test.true c.loop-i.invariant.0 (search rules)
 
 pub loop-i-preserved : goal.loop-i-preserved
 unfolding least greatest
 loop-i-preserved c =
-    let read : FitsSigned w16 (each_ℤ c.args.surpluses.now c.loop-i.i) = search rules in
-    let up = c.risen-level.ensures ∙ rises c.requires c.loop-i.i c.loop-i-test.true c.loop-i.invariant.0 read.sfits in (
+    let up = c.risen-level.ensures ∙ rises c.requires c.loop-i.i c.loop-i-test.true c.loop-i.invariant.0 (search rules) in (
       rw add-one up,
       rw (add-one, least) (c.lesser-low.ensures ∙ (λ t. min (c.loop-i.invariant.1 t) (up t))),
       rw (add-one, greatest) (c.greater-high.ensures ∙ (λ t. max (c.loop-i.invariant.2 t) (up t))),

@@ -1,7 +1,7 @@
 -- `sums::tally_of`: what each link carries, and how long it takes for it, is added. Assumes nothing.
-use Rattle.std.proofs.Common.{◌≡◌, refl, ap, ◌∙◌, ℕ, suc, ◌+◌, ◌*◌, max, ltb, mul_comm, add-one, arith, rules, FitsSigned, w16}
+use Rattle.std.proofs.Common.{◌≡◌, refl, ap, ◌∙◌, ℕ, suc, ◌+◌, ◌*◌, max, ltb, mul_comm, add-one, arith, rules}
 use Rattle.ring.specs.Numbers.{pick, sum, sum_ℤ}
-use Rattle.ring.specs.Lists.{each, each_ℤ}
+use Rattle.ring.specs.Lists.{each}
 use Rattle.planner.specs.Outline.{between, before, carries_by, time_by}
 use Rattle.planner.proofs.SumLevels.{may_rise, rises}
 use Rattle.planner.proofs.SumWalk.{highest, summit, highest_is, summit_is}
@@ -14,14 +14,12 @@ loop-i-init c = (omega arith, refl, omega arith, refl, refl)
 
 pub risen-level-requires : goal.risen-level-requires
 risen-level-requires c =
-    let read : FitsSigned w16 (each_ℤ c.args.surpluses.now c.loop-i.i) = search rules in
-    may_rise c.requires.lengths.3 c.loop-i.i c.loop-i-test.true c.loop-i.invariant.0 read.sfits
+    may_rise c.requires.lengths.3 c.loop-i.i c.loop-i-test.true c.loop-i.invariant.0 (search rules)
 
 -- the next level, and what its link carries
 rise : (c : After-apart-items) → c.risen-level.result ≡ before c.args.total c.args.surpluses.now (suc c.loop-i.i)
 rise c =
-    let read : FitsSigned w16 (each_ℤ c.args.surpluses.now c.loop-i.i) = search rules in
-    c.risen-level.ensures ∙ rises c.requires.lengths.3 c.loop-i.i c.loop-i-test.true c.loop-i.invariant.0 read.sfits
+    c.risen-level.ensures ∙ rises c.requires.lengths.3 c.loop-i.i c.loop-i-test.true c.loop-i.invariant.0 (search rules)
 
 carried : (c : After-apart-items) → c.apart-items.result ≡ carries_by c.args.total c.args.surpluses.now c.args.offset c.loop-i.i
 carried c = c.apart-items.ensures ∙ (λ t. between (rise c t) c.args.offset)
