@@ -7,13 +7,15 @@ use lib.Dec.{ltb, leb→le, le→leb}
 use lib.IntN.{ℤ, pos, negsuc, ◌-ℤ◌, nat_abs}
 use lib.Signed.{lt_z, ◌≤ℤ◌, le_z_yes}
 use borrow.Author.Tests.{ltb-false, le-ltb}
-use Rattle.ring.specs.declared.Made.{Made}
-use Rattle.ring.specs.declared.Made.TheVariants.{Sound, Load, After, Cost}
+use Rattle.std.specs.Prelude.{Result, Ok, Err}
+use Rattle.ring.specs.declared.Board.{Board}
+use Rattle.ring.specs.declared.Outside.{Outside}
+use Rattle.ring.specs.declared.Outside.TheVariants.{Load, After, Cost}
 use Rattle.ring.specs.Numbers.{pick}
 use Rattle.ring.specs.Limits.{outside_ℤ, board_of, cost_of, fault_of}
 
 -- neither test held
-neither : (t u : Bool) (a x : Made) → (fault_of a ≡ 0 → ⊥) → fault_of (pick t a (pick u a x)) ≡ 0 → (t ≡ false) × (u ≡ false) × (pick t a (pick u a x) ≡ x)
+neither : (t u : Bool) (a x : Result Board Outside) → (fault_of a ≡ 0 → ⊥) → fault_of (pick t a (pick u a x)) ≡ 0 → (t ≡ false) × (u ≡ false) × (pick t a (pick u a x) ≡ x)
 neither true u a x bad e = absurd (bad e)
 neither false true a x bad e = absurd (bad e)
 neither false false a x bad e = (refl, refl, refl)
@@ -36,12 +38,12 @@ pub record Sane (l : ℕ) (z : ℤ) (c : ℕ) : Type 0 where
 pub sane : (l : ℕ) (z : ℤ) (c : ℕ) → fault_of (board_of l z c) ≡ 0 → Sane l z c
 unfolding board_of
 sane l z c e =
-    let no7 : fault_of Load ≡ 0 → ⊥ = λ q. omega arith in
-    let no8 : fault_of After ≡ 0 → ⊥ = λ q. omega arith in
-    let no9 : fault_of Cost ≡ 0 → ⊥ = λ q. omega arith in
-    let p = neither (ltb l 1) (ltb 4095 l) Load (outside_ℤ (pos 1) (pos 4095) (pos l -ℤ z) After (cost_of l z c)) no7 e in
-    let q = neither (lt_z (pos l -ℤ z) (pos 1)) (lt_z (pos 4095) (pos l -ℤ z)) After (cost_of l z c) no8 (sym (ap fault_of p.2) ∙ e) in
-    let r = neither (ltb c 1) (ltb 8000 c) Cost (Sound (record { load = l; surplus = z; cost = c })) no9 (sym (ap fault_of (p.2 ∙ q.2)) ∙ e) in
+    let no7 : fault_of (Err Load) ≡ 0 → ⊥ = λ q. omega arith in
+    let no8 : fault_of (Err After) ≡ 0 → ⊥ = λ q. omega arith in
+    let no9 : fault_of (Err Cost) ≡ 0 → ⊥ = λ q. omega arith in
+    let p = neither (ltb l 1) (ltb 4095 l) (Err Load) (outside_ℤ (pos 1) (pos 4095) (pos l -ℤ z) (Err After) (cost_of l z c)) no7 e in
+    let q = neither (lt_z (pos l -ℤ z) (pos 1)) (lt_z (pos 4095) (pos l -ℤ z)) (Err After) (cost_of l z c) no8 (sym (ap fault_of p.2) ∙ e) in
+    let r = neither (ltb c 1) (ltb 8000 c) (Err Cost) (Ok (record { load = l; surplus = z; cost = c })) no9 (sym (ap fault_of (p.2 ∙ q.2)) ∙ e) in
     let w = within (pos l -ℤ z) q.0 q.1 in
     record {
       load_least = ltb-false l 1 p.0;
