@@ -1,26 +1,22 @@
 -- A job's bytes are read back as its kind and its numbers. Assumes nothing.
-use mathlib.Core.Path.{◌≡◌, refl, sym, ap, ◌∙◌}
-use mathlib.Core.List.{List, ◌++◌}
-use Prim.Native.Nat.{ℕ, suc, ◌+◌, ◌*◌, ◌/◌, ◌%◌, ◌<◌}
-use native.Mathlib.Omega.{arith}
-use lib.IntN.{ℤ, pos, negsuc, nat_abs, ◌+ℤ◌, ◌-ℤ◌, -ℤ-+ℤ_cancel}
-use lib.ListN.{length, get_or, replicate}
+use Rattle.std.proofs.Common.{◌≡◌, refl, sym, ap, ◌∙◌, List, ◌++◌, ℕ, suc, ◌+◌, ◌*◌, ◌/◌, ◌%◌, ◌<◌, pos, negsuc, nat_abs, ◌+ℤ◌, ◌-ℤ◌, length, get_or, replicate, Ok, FitsSigned, w16, to_z, of_z, to_z-of_z, arith}
+use Rattle.std.specs.Int.Signed.{mag}
+use lib.IntN.{ℤ, -ℤ-+ℤ_cancel}
 use lib.Seq.{get_or-append-add}
-use lib.Signed.{mag}
-use mir.Syntax.{w16}
-use mir.Val.{to_z, of_z, SFits}
-use mir.Facts.{to_z-of_z, Fits-of_z}
+use mir.Facts.{Fits-of_z}
 use Rattle.ring.specs.Lists.{joined}
 use Rattle.ring.specs.Boards.{Within}
 use Rattle.ring.specs.Bytes.{half_at}
 use Rattle.ring.proofs.Sound.{Sane}
-use Rattle.hop.specs.declared.Check.TheVariants.{Ring}
+use Rattle.ring.proofs.Fill.{Below, fill_same}
+use Rattle.hop.specs.declared.Shape.{Shape}
+use Rattle.hop.specs.Kinds.{number_of}
 use Rattle.hop.specs.Refusals.{ring_check}
 use Rattle.hop.specs.Read.{job_length, load_in, surplus_in, cost_in, head_of, check_of, holding, beside, job_of}
 use Rattle.hop.specs.Write.{head_bytes, board_bytes, job_bytes}
 use Rattle.hop.specs.Lawful.{Headed}
+use Rattle.hop.proofs.KindNumbers.{kind_within}
 use Rattle.hop.proofs.Pieces.{joined_long, joined_at}
-use Rattle.ring.proofs.Fill.{Below, fill_same}
 use Rattle.hop.proofs.Same.{check_same}
 use Rattle.hop.proofs.Passed.{passed}
 use Rattle.hop.proofs.Reading.{head_is}
@@ -57,42 +53,45 @@ module _ (kind n : ℕ) (load : ℕ → ℕ) (surplus : ℕ → ℤ) (cost : ℕ
       → half_at (job_bytes kind n load surplus cost) m ≡ get_or (board_bytes load surplus cost i) j 0 * 256 + get_or (board_bytes load surplus cost i) (suc j) 0
   half_at_put m i j e h w = λ t. byte_at m i j e h (omega arith) t * 256 + byte_at (m + 1) i (suc j) (omega arith) h w t
 
-  module _ (ks : Within 1 3 kind) (bs : Within 2 128 n) (is : ring_check kind n load surplus cost ≡ Ring kind n) where
-    sane : (i : ℕ) → i < n → Sane (load i) (surplus i) (cost i)
-    sane i h = (passed kind n load surplus cost kind n is).sane i h
+module _ (ring : Shape) (load : ℕ → ℕ) (surplus : ℕ → ℤ) (cost : ℕ → ℕ) (bs : Within 2 128 ring.n) (is : ring_check ring load surplus cost ≡ Ok ring) where
+  abbrev pub bytes : List ℕ
+  bytes = job_bytes (number_of ring.kind) ring.n load surplus cost
 
-    loads_back : Below (load_in (job_bytes kind n load surplus cost)) load n
-    loads_back = record { at = λ i h. half_at_put (job_length i) i 0 (omega arith) h (omega arith) ∙ half_back (load i) (let s = sane i h in omega arith) }
+  sane : (i : ℕ) → i < ring.n → Sane (load i) (surplus i) (cost i)
+  sane i h = (passed ring load surplus cost ring is).0.sane i h
 
-    costs_back : Below (cost_in (job_bytes kind n load surplus cost)) cost n
-    costs_back = record { at = λ i h. half_at_put (job_length i + 4) i 4 (omega arith) h (omega arith) ∙ half_back (cost i) (let s = sane i h in omega arith) }
+  loads_back : Below (load_in bytes) load ring.n
+  loads_back = record { at = λ i h. half_at_put (number_of ring.kind) ring.n load surplus cost (job_length i) i 0 (omega arith) h (omega arith) ∙ half_back (load i) (let s = sane i h in omega arith) }
 
-    surpluses_back : Below (surplus_in (job_bytes kind n load surplus cost)) surplus n
-    surpluses_back = record {
-      at = λ i h.
-          let s = sane i h in
-          let f : SFits w16 (surplus i) = record { sfits = small (load i) (nat_abs (pos (load i) -ℤ surplus i)) (surplus i) (omega arith) (omega arith) s.after_is } in
-          ap (to_z w16) (half_at_put (job_length i + 2) i 2 (omega arith) h (omega arith) ∙ half_back (of_z w16 (surplus i)) (Fits-of_z f).fits) ∙ to_z-of_z f;
-    }
+  costs_back : Below (cost_in bytes) cost ring.n
+  costs_back = record { at = λ i h. half_at_put (number_of ring.kind) ring.n load surplus cost (job_length i + 4) i 4 (omega arith) h (omega arith) ∙ half_back (cost i) (let s = sane i h in omega arith) }
 
-    head_back : head_of (job_bytes kind n load surplus cost) ≡ Ring kind n
-    unfolding job_bytes
-    head_back =
-        let rest = joined (board_bytes load surplus cost) n in
-        head_is (head_bytes kind n ++ rest) kind n (head_bytes_of kind n rest ks bs (joined_long (board_bytes load surplus cost) (λ i. refl) n))
+  surpluses_back : Below (surplus_in bytes) surplus ring.n
+  surpluses_back = record {
+    at = λ i h.
+        let s = sane i h in
+        let f : FitsSigned w16 (surplus i) = record { sfits = small (load i) (nat_abs (pos (load i) -ℤ surplus i)) (surplus i) (omega arith) (omega arith) s.after_is } in
+        ap (to_z w16) (half_at_put (number_of ring.kind) ring.n load surplus cost (job_length i + 2) i 2 (omega arith) h (omega arith) ∙ half_back (of_z w16 (surplus i)) (Fits-of_z f).fits) ∙ to_z-of_z f;
+  }
 
-    pub job_back : job_of (job_bytes kind n load surplus cost) ≡ holding kind n load surplus cost
-    unfolding job_of check_of
-    job_back =
-        let s = job_bytes kind n load surplus cost in
-        let e : check_of s ≡ Ring kind n =
-        sym (goes (head_of s) _ kind n head_back)
-        ∙ check_same kind n (omega arith) (load_in s) load (surplus_in s) surplus (cost_in s) cost loads_back surpluses_back costs_back
-        ∙ is in
-        ap (beside s) e
-        ∙ (λ t. record {
-          answer = Ring kind n;
-          loads = fill_same (load_in s) load n (replicate 128 0) loads_back t;
-          surpluses = fill_same (surplus_in s) surplus n (replicate 128 (pos 0)) surpluses_back t;
-          costs = fill_same (cost_in s) cost n (replicate 128 0) costs_back t;
-        })
+  head_back : head_of bytes ≡ Ok ring
+  unfolding job_bytes
+  head_back =
+      let rest = joined (board_bytes load surplus cost) ring.n in
+      head_is (head_bytes (number_of ring.kind) ring.n ++ rest) ring (head_bytes_of (number_of ring.kind) ring.n rest (kind_within ring.kind) bs (joined_long (board_bytes load surplus cost) (λ i. refl) ring.n))
+
+  pub job_back : job_of bytes ≡ holding ring load surplus cost
+  unfolding job_of check_of
+  job_back =
+      let s = bytes in
+      let e : check_of s ≡ Ok ring =
+      sym (goes (head_of s) _ ring head_back)
+      ∙ check_same ring (omega arith) (load_in s) load (surplus_in s) surplus (cost_in s) cost loads_back surpluses_back costs_back
+      ∙ is in
+      ap (beside s) e
+      ∙ (λ t. record {
+        answer = Ok ring;
+        loads = fill_same (load_in s) load ring.n (replicate 128 0) loads_back t;
+        surpluses = fill_same (surplus_in s) surplus ring.n (replicate 128 (pos 0)) surpluses_back t;
+        costs = fill_same (cost_in s) cost ring.n (replicate 128 0) costs_back t;
+      })

@@ -1,10 +1,46 @@
 -- Document 01, "Refusal numbers": what each answer of this crate says in that table's numbers, and which of them a function may give.
-use Rattle.std.specs.Prelude.{◌≡◌, List, [], ◌∷◌, ◌⊎◌, ℕ, ◌<◌}
+use Rattle.std.specs.Prelude.{◌≡◌, List, [], ◌∷◌, ◌++◌, ◌⊎◌, ℕ, ◌<◌, Result, Ok, Err, codes}
+use Rattle.std.specs.Fmt.{decimal}
 use Rattle.ring.specs.Boards.{Within}
-use Rattle.hop.specs.declared.Check.{Check}
-use Rattle.hop.specs.declared.Check.TheVariants.{Ring, Refused}
-use Rattle.hop.specs.declared.Written.{Written}
-use Rattle.hop.specs.declared.Written.TheVariants.{Bytes, Refused as Unwritten}
+use Rattle.ring.specs.Limits as limits
+use Rattle.hop.specs.declared.Shape.{Shape}
+use Rattle.hop.specs.declared.refusals.Refusal.{Refusal}
+use Rattle.hop.specs.declared.refusals.Refusal.TheVariants.{TooShort, NoJob, NoVersion, NoKind, BoardCount, WrongLength, BadBoard, UnlikeCost, Unbalanced, TooLate, NoRoom, ShortList}
+use Rattle.hop.specs.Kinds.{number_of}
+
+-- the number of each refusal; 14 and 16 are given by the calls that fill a list
+abbrev pub number_by : Refusal → ℕ
+number_by TooShort = 1
+number_by NoJob = 2
+number_by NoVersion = 3
+number_by NoKind = 4
+number_by BoardCount = 5
+number_by WrongLength = 6
+number_by (BadBoard fault board) = limits.number_of fault
+number_by (UnlikeCost board) = 10
+number_by Unbalanced = 11
+number_by TooLate = 12
+number_by NoRoom = 13
+number_by (ShortList number) = number
+
+-- the board that it names, and 0 where it names none
+abbrev pub board_by : Refusal → ℕ
+board_by (BadBoard fault board) = board
+board_by (UnlikeCost board) = board
+board_by TooShort = 0
+board_by NoJob = 0
+board_by NoVersion = 0
+board_by NoKind = 0
+board_by BoardCount = 0
+board_by WrongLength = 0
+board_by Unbalanced = 0
+board_by TooLate = 0
+board_by NoRoom = 0
+board_by (ShortList number) = 0
+
+-- as it is printed: "refused N board B"
+abbrev pub refused_text : Refusal → List ℕ
+refused_text r = codes "refused " ++ decimal (number_by r) ++ codes " board " ++ decimal (board_by r)
 
 -- what an answer says: the values that success returns, or the refusal's number and board
 pub data Answer : Type 0 where
@@ -21,15 +57,18 @@ abbrev pub board_in : Answer → ℕ
 board_in (success values) = 0
 board_in (refusal number board) = board
 
+-- of a result: the values of a success, or the refusal
+abbrev pub of_answer : {A : Type 0} → (A → List ℕ) → Result A Refusal → Answer
+of_answer values (Ok a) = success (values a)
+of_answer values (Err r) = refusal (number_by r) (board_by r)
+
 -- of the reader's check: the kind and n, which stand beside the job's numbers
-abbrev pub of_check : Check → Answer
-of_check (Ring kind n) = success (kind ∷ n ∷ [])
-of_check (Refused number board) = refusal number board
+abbrev pub of_check : Result Shape Refusal → Answer
+of_check = of_answer (λ ring. number_of ring.kind ∷ ring.n ∷ [])
 
 -- of the job writer: the length written
-abbrev pub of_written : Written → Answer
-of_written (Bytes length) = success (length ∷ [])
-of_written (Unwritten number board) = refusal number board
+abbrev pub of_written : Result ℕ Refusal → Answer
+of_written = of_answer (λ length. length ∷ [])
 
 -- refusals 7 to 10 name one of the ring's n boards; the others name none, and their board is 0
 abbrev pub Placed : ℕ → ℕ → ℕ → Type 0

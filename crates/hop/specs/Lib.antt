@@ -1,3 +1,4 @@
+pub mod Kinds
 pub mod Answers
 pub mod Refusals
 pub mod Seen

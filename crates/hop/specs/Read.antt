@@ -1,14 +1,15 @@
 -- Document 01, "Bytes": what the bytes of a job say, or why they are refused.
-use Rattle.std.specs.Prelude.{List, ℕ, ◌+◌, ◌*◌, ltb, ℤ, pos, length, get_or, replicate}
+use Rattle.std.specs.Prelude.{List, ℕ, ◌+◌, ◌*◌, ltb, ℤ, pos, length, get_or, replicate, Result, Ok, Err}
 use Rattle.std.specs.Int.{w16}
 use Rattle.std.proofs.Common.{to_z}
 use Rattle.ring.specs.Numbers.{pick}
 use Rattle.ring.specs.Lists.{fill}
 use Rattle.ring.specs.Bytes.{half_at}
-use Rattle.hop.specs.declared.Check.{Check}
-use Rattle.hop.specs.declared.Check.TheVariants.{Ring, Refused}
+use Rattle.hop.specs.declared.Shape.{Shape}
 use Rattle.hop.specs.declared.Job.{Job}
 use Rattle.hop.specs.declared.Numbers.{Numbers}
+use Rattle.hop.specs.declared.refusals.Refusal.{Refusal}
+use Rattle.hop.specs.declared.refusals.Refusal.TheVariants.{TooShort, NoJob, NoVersion, WrongLength}
 use Rattle.hop.specs.Refusals.{unlike, goes_on, shape_of, ring_check}
 
 -- the length of a job of n boards, and so the place of board n's numbers in a longer one
@@ -36,43 +37,43 @@ abbrev pub numbers_in : List ℕ → ℕ → Numbers
 numbers_in s i = pick (ltb (length s) (job_length i + 6)) (record { load = 0; surplus = pos 0; cost = 0 }) (stored_in s i)
 
 -- refusals 4 to 6, or the kind and n
-abbrev pub sizes_of : List ℕ → Check
-sizes_of s = goes_on (shape_of (get_or s 5 0) (get_or s 6 0)) (λ kind n. unlike (length s) (job_length n) (Refused 6 0) (Ring kind n))
+abbrev pub sizes_of : List ℕ → Result Shape Refusal
+sizes_of s = goes_on (shape_of (get_or s 5 0) (get_or s 6 0)) (λ ring. unlike (length s) (job_length ring.n) (Err WrongLength) (Ok ring))
 
 -- 2 where the mark is not "HOP", 3 where the version is not 1, then the rest
-abbrev pub mark_of : List ℕ → Check
+abbrev pub mark_of : List ℕ → Result Shape Refusal
 mark_of s =
-    unlike (get_or s 0 0) 72 (Refused 2 0)
-    (unlike (get_or s 1 0) 79 (Refused 2 0)
-    (unlike (get_or s 2 0) 80 (Refused 2 0)
-    (unlike (half_at s 3) 1 (Refused 3 0) (sizes_of s))))
+    unlike (get_or s 0 0) 72 (Err NoJob)
+    (unlike (get_or s 1 0) 79 (Err NoJob)
+    (unlike (get_or s 2 0) 80 (Err NoJob)
+    (unlike (half_at s 3) 1 (Err NoVersion) (sizes_of s))))
 
 -- refusals 1 to 6, or the kind and n
-abbrev pub head_of : List ℕ → Check
-head_of s = pick (ltb (length s) 7) (Refused 1 0) (mark_of s)
+abbrev pub head_of : List ℕ → Result Shape Refusal
+head_of s = pick (ltb (length s) 7) (Err TooShort) (mark_of s)
 
 -- the reader's answer: refusals 1 to 6, then 7 to 11, or the kind and n
-unfoldable pub check_of : List ℕ → Check
-check_of s = goes_on (head_of s) (λ kind n. ring_check kind n (load_in s) (surplus_in s) (cost_in s))
+unfoldable pub check_of : List ℕ → Result Shape Refusal
+check_of s = goes_on (head_of s) (λ ring. ring_check ring (load_in s) (surplus_in s) (cost_in s))
 
 -- a ring with its boards' numbers beside it, and zeros after them
-abbrev pub holding : ℕ → ℕ → (ℕ → ℕ) → (ℕ → ℤ) → (ℕ → ℕ) → Job
-holding kind n load surplus cost =
+abbrev pub holding : Shape → (ℕ → ℕ) → (ℕ → ℤ) → (ℕ → ℕ) → Job
+holding ring load surplus cost =
     record {
-      answer = Ring kind n;
-      loads = fill load n (replicate 128 0);
-      surpluses = fill surplus n (replicate 128 (pos 0));
-      costs = fill cost n (replicate 128 0);
+      answer = Ok ring;
+      loads = fill load ring.n (replicate 128 0);
+      surpluses = fill surplus ring.n (replicate 128 (pos 0));
+      costs = fill cost ring.n (replicate 128 0);
     }
 
 -- an answer with nothing but zeros beside it
-abbrev pub bare : Check → Job
+abbrev pub bare : Result Shape Refusal → Job
 bare answer = record { answer = answer; loads = replicate 128 0; surpluses = replicate 128 (pos 0); costs = replicate 128 0 }
 
 -- a ring has the numbers that the bytes say beside it, a refusal has zeros
-abbrev pub beside : List ℕ → Check → Job
-beside s (Ring kind n) = holding kind n (load_in s) (surplus_in s) (cost_in s)
-beside s (Refused number board) = bare (Refused number board)
+abbrev pub beside : List ℕ → Result Shape Refusal → Job
+beside s (Ok ring) = holding ring (load_in s) (surplus_in s) (cost_in s)
+beside s (Err r) = bare (Err r)
 
 -- the job that is read from any bytes
 unfoldable pub job_of : List ℕ → Job

@@ -1,14 +1,13 @@
 -- Document 01, "Bytes": the bytes of a job, and what the job writer answers and leaves in the buffer.
-use Rattle.std.specs.Prelude.{List, [], ◌∷◌, ◌++◌, ℕ, ltb, ℤ, length, drop}
+use Rattle.std.specs.Prelude.{List, [], ◌∷◌, ◌++◌, ℕ, ltb, ℤ, length, drop, Result, Ok, Err}
 use Rattle.std.specs.Int.{w16}
 use Rattle.std.proofs.Common.{of_z}
 use Rattle.ring.specs.Numbers.{pick}
 use Rattle.ring.specs.Lists.{each, each_ℤ, joined}
 use Rattle.ring.specs.Bytes.{half_bytes}
-use Rattle.hop.specs.declared.Check.{Check}
-use Rattle.hop.specs.declared.Check.TheVariants.{Ring, Refused}
-use Rattle.hop.specs.declared.Written.{Written}
-use Rattle.hop.specs.declared.Written.TheVariants.{Bytes, Refused as Unwritten}
+use Rattle.hop.specs.declared.Shape.{Shape}
+use Rattle.hop.specs.declared.refusals.Refusal.{Refusal}
+use Rattle.hop.specs.declared.refusals.Refusal.TheVariants.{WrongLength, NoRoom}
 use Rattle.hop.specs.Refusals.{unlike, goes_on, shape_of, ring_check}
 use Rattle.hop.specs.Read.{job_length}
 
@@ -29,25 +28,25 @@ unfoldable pub job_bytes : ℕ → ℕ → (ℕ → ℕ) → (ℕ → ℤ) → (
 job_bytes kind n load surplus cost = head_bytes kind n ++ joined (board_bytes load surplus cost) n
 
 -- 4; 5 for the first list's length; 6 where another's differs; 7 to 11; or the ring
-abbrev pub lists_of : ℕ → List ℕ → List ℤ → List ℕ → Check
+abbrev pub lists_of : ℕ → List ℕ → List ℤ → List ℕ → Result Shape Refusal
 lists_of kind loads surpluses costs =
     goes_on (shape_of kind (length loads))
-    (λ kind n. unlike (length surpluses) n (Refused 6 0)
-    (unlike (length costs) n (Refused 6 0) (ring_check kind n (each loads) (each_ℤ surpluses) (each costs))))
+    (λ ring. unlike (length surpluses) ring.n (Err WrongLength)
+    (unlike (length costs) ring.n (Err WrongLength) (ring_check ring (each loads) (each_ℤ surpluses) (each costs))))
 
 -- then 13 where the buffer has too little room; or the length written
-abbrev pub room_of : ℕ → Check → Written
-room_of room (Ring kind n) = pick (ltb room (job_length n)) (Unwritten 13 0) (Bytes (job_length n))
-room_of room (Refused number board) = Unwritten number board
+abbrev pub room_of : ℕ → Result Shape Refusal → Result ℕ Refusal
+room_of room (Ok ring) = pick (ltb room (job_length ring.n)) (Err NoRoom) (Ok (job_length ring.n))
+room_of room (Err r) = Err r
 
 -- the writer's answer, with a buffer of this length
-unfoldable pub written_of : ℕ → List ℕ → List ℤ → List ℕ → ℕ → Written
+unfoldable pub written_of : ℕ → List ℕ → List ℤ → List ℕ → ℕ → Result ℕ Refusal
 written_of kind loads surpluses costs room = room_of room (lists_of kind loads surpluses costs)
 
 -- a buffer with these bytes at its front, or as it was where nothing is written
-abbrev pub buffer_by : Written → List ℕ → List ℕ → List ℕ
-buffer_by (Bytes n) bytes buf = bytes ++ drop n buf
-buffer_by (Unwritten number board) bytes buf = buf
+abbrev pub buffer_by : Result ℕ Refusal → List ℕ → List ℕ → List ℕ
+buffer_by (Ok n) bytes buf = bytes ++ drop n buf
+buffer_by (Err r) bytes buf = buf
 
 -- the buffer that the writer leaves
 unfoldable pub buffer_of : ℕ → List ℕ → List ℤ → List ℕ → List ℕ → List ℕ

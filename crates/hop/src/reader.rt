@@ -1,90 +1,73 @@
 // The job reader: from any bytes to a job.
 ghost use Rattle.std.specs.Prelude.{◌≡◌, ◌+◌, ◌≤◌, length};
-ghost use Rattle.hop.specs.Refusals.{ring_check};
-ghost use Rattle.hop.specs.Read.{job_length, load_in, surplus_in, cost_in, stored_in, numbers_in, sizes_of, mark_of, head_of, check_of, job_of};
+ghost use Rattle.hop.specs.Read.{job_length, load_in, surplus_in, cost_in, numbers_in, sizes_of, mark_of, head_of, check_of, job_of};
 
-use crate::bits::{half, signed};
-use crate::rules::{settled, shape, unseen, with_board};
-use crate::{Check, Job, MOST_BOARDS, Numbers, job_length};
+use crate::bits::half;
+use crate::rules::{Boards, check, shape};
+use crate::{Job, MOST_BOARDS, Numbers, Refusal, Shape, job_length};
+
+// A job's bytes, as the place of its boards' numbers.
+#[derive(Clone, Copy)]
+struct Bytes<'a> {
+    s: &'a [u8],
+}
+
+impl<'a> Boards for Bytes<'a> {
+    ghost has = { λ b i. job_length i + 6 ≤ length b.s.now };
+
+    ghost load = { λ b i. load_in b.s.now i };
+
+    ghost surplus = { λ b i. surplus_in b.s.now i };
+
+    ghost cost = { λ b i. cost_in b.s.now i };
+
+    fn numbers(&self, i: u8) -> Numbers {
+        let at = job_length(i);
+        Numbers {
+            load: half(self.s, at),
+            surplus: half(self.s, at + 2).cast_signed(),
+            cost: half(self.s, at + 4),
+        }
+    }
+}
 
 // Refusals 4 to 6, or the kind and n.
-fn sizes(s: &[u8]) -> Check
+fn sizes(s: &[u8]) -> Result<Shape, Refusal>
     requires { 7 ≤ length s.now }
     ensures { result ≡ sizes_of s.now }
 {
-    let shaped = shape(s[5], s[6] as usize);
-    let Check::Ring { kind, n } = shaped else {
-        return shaped;
-    };
-    if s.len() != job_length(n) {
-        return Check::Refused {
-            number: 6,
-            board: 0,
-        };
+    let ring = shape(s[5], usize::from(s[6]))?;
+    if s.len() != job_length(ring.n) {
+        return Err(Refusal::WrongLength);
     }
-    Check::Ring { kind, n }
+    Ok(ring)
 }
 
 // Refusals 2 and 3, then the rest.
-fn mark(s: &[u8]) -> Check
+fn mark(s: &[u8]) -> Result<Shape, Refusal>
     requires { 7 ≤ length s.now }
     ensures { result ≡ mark_of s.now }
 {
-    if s[0] != b'H' {
-        return Check::Refused {
-            number: 2,
-            board: 0,
-        };
-    }
-    if s[1] != b'O' {
-        return Check::Refused {
-            number: 2,
-            board: 0,
-        };
-    }
-    if s[2] != b'P' {
-        return Check::Refused {
-            number: 2,
-            board: 0,
-        };
+    if !s.starts_with(b"HOP") {
+        return Err(Refusal::NoJob);
     }
     if half(s, 3) != 1 {
-        return Check::Refused {
-            number: 3,
-            board: 0,
-        };
+        return Err(Refusal::NoVersion);
     }
     sizes(s)
 }
 
 // Refusals 1 to 6, or the kind and n.
-fn head(s: &[u8]) -> Check
+fn head(s: &[u8]) -> Result<Shape, Refusal>
     ensures { result ≡ head_of s.now }
 {
     if s.len() < 7 {
-        return Check::Refused {
-            number: 1,
-            board: 0,
-        };
+        return Err(Refusal::TooShort);
     }
     mark(s)
 }
 
-// The numbers of board i, whose bytes are there.
-fn stored(s: &[u8], i: u8) -> Numbers
-    requires { job_length i + 6 ≤ length s.now }
-    ensures { result ≡ stored_in s.now i }
-{
-    let at = job_length(i);
-    let surplus = signed(half(s, at + 2));
-    Numbers {
-        load: half(s, at),
-        surplus,
-        cost: half(s, at + 4),
-    }
-}
-
-// The numbers of board i as the bytes have them; zeros where they end before that board's do.
+// The numbers of board i as the bytes have them; zeros where they end before that board's do, as `numbers_in` has it.
 pub fn numbers_of(s: &[u8], i: u8) -> Numbers
     ensures { result ≡ numbers_in s.now i }
 {
@@ -95,59 +78,42 @@ pub fn numbers_of(s: &[u8], i: u8) -> Numbers
             cost: 0,
         };
     }
-    stored(s, i)
-}
-
-// Refusals 7 to 11 of n boards of bytes, or the ring.
-fn boards(s: &[u8], kind: u8, n: u8) -> Check
-    requires { (1 ≤ n) × (n ≤ 128) × (job_length n ≤ length s.now) }
-    ensures { result ≡ ring_check kind n (load_in s.now) (surplus_in s.now) (cost_in s.now) }
-{
-    let mut seen = unseen(stored(s, 0).cost);
-    for i in 0..n {
-        let board = stored(s, i);
-        let surplus = board.surplus;
-        seen = with_board(seen, i, board.load, surplus, board.cost);
-        let number = seen.fault;
-        if number != 0 {
-            return Check::Refused { number, board: i };
-        }
-    }
-    settled(kind, n, seen)
+    Bytes { s }.numbers(i)
 }
 
 // The reader's answer to any bytes, with no job made: the kind and n, or the first refusal of 1 to 11.
-pub fn checked(s: &[u8]) -> Check
+pub fn checked(s: &[u8]) -> Result<Shape, Refusal>
     ensures { result ≡ check_of s.now }
 {
-    let first = head(s);
-    let Check::Ring { kind, n } = first else {
-        return first;
-    };
-    boards(s, kind, n)
+    check(head(s)?, &Bytes { s })
+}
+
+// Reads any bytes into a job: what they say, or their first refusal of 1 to 11 with zeros beside it. The job is filled where it stands, since one that is
+// returned by value stands on the stack more than once.
+pub fn read_into(s: &[u8], job: &mut Job)
+    ensures { job.new ≡ job_of s.now }
+{
+    job.answer = checked(s);
+    job.loads = [0; MOST_BOARDS];
+    job.surpluses = [0; MOST_BOARDS];
+    job.costs = [0; MOST_BOARDS];
+    if let Ok(ring) = job.answer {
+        // by board, since document 01 asks for three arrays side by side
+        for i in 0..ring.n {
+            let k = usize::from(i);
+            let board = Bytes { s }.numbers(i);
+            job.loads[k] = board.load;
+            job.surpluses[k] = board.surplus;
+            job.costs[k] = board.cost;
+        }
+    }
 }
 
 // The job of any bytes, or its first refusal of 1 to 11.
 pub fn read(s: &[u8]) -> Job
     ensures { result ≡ job_of s.now }
 {
-    let answer = checked(s);
-    let mut job = Job {
-        answer,
-        loads: [0; MOST_BOARDS],
-        surpluses: [0; MOST_BOARDS],
-        costs: [0; MOST_BOARDS],
-    };
-    let Check::Ring { kind: _, n } = answer else {
-        return job;
-    };
-    for i in 0..n {
-        let k = i as usize;
-        let board = stored(s, i);
-        let surplus = board.surplus;
-        job.loads[k] = board.load;
-        job.surpluses[k] = surplus;
-        job.costs[k] = board.cost;
-    }
+    let mut job = Job::UNREAD;
+    read_into(s, &mut job);
     job
 }

@@ -1,105 +1,107 @@
-// The rules that a ring's numbers are held to, said once for the reader and the writer, which walk over bytes and over lists: refusals 4, 5 and 7 to 11.
-ghost use Rattle.std.specs.Prelude.{◌≡◌, ◌*◌, ◌≤◌, pos};
+// The rules that a ring's numbers are held to, said once for the reader and the writer, whose boards stand in bytes and in lists: refusals 4, 5 and
+// 7 to 11.
+ghost use Rattle.std.specs.Prelude.{◌≡◌, ℕ, ℤ, ◌*◌, ◌≤◌, ◌<◌, pos, None};
 ghost use Rattle.std.specs.Int.Signed.{mag};
-ghost use Rattle.hop.specs.Refusals.{shape_of};
-ghost use Rattle.hop.specs.Seen.{seen_unlike, seen_with, settled_of};
+ghost use Rattle.hop.specs.Refusals.{shape_of, ring_check};
+ghost use Rattle.hop.specs.Seen.{seen_with, settled_of};
 
-use crate::{Check, FEWEST_BOARDS, FIRST_KIND, LAST_KIND, MOST_BOARDS};
+use crate::{FEWEST_BOARDS, Kind, MOST_BOARDS, Numbers, Refusal, Shape};
+use ring::{Board, Outside};
 
-// Refusals 4 and 5, or the kind and n.
-pub(crate) fn shape(kind: u8, n: usize) -> Check
+// The boards of a ring, wherever their numbers stand.
+pub(crate) trait Boards {
+    // whether board i has a place there
+    ghost has: { Self → ℕ → Type 0 };
+
+    ghost load: { Self → ℕ → ℕ };
+
+    ghost surplus: { Self → ℕ → ℤ };
+
+    ghost cost: { Self → ℕ → ℕ };
+
+    // The numbers of board i.
+    fn numbers(&self, i: u8) -> Numbers
+        requires { has self.now i }
+        ensures { result ≡ record { load = load self.now i; surplus = surplus self.now i; cost = cost self.now i } };
+}
+
+// Refusals 4 and 5, or the kind and n. The kind is any byte, as a job or the caller of `write` has it: 4 is promised of the others (`shape_of`).
+pub(crate) fn shape(kind: u8, n: usize) -> Result<Shape, Refusal>
     ensures { result ≡ shape_of kind n }
 {
-    if kind < FIRST_KIND {
-        return Check::Refused {
-            number: 4,
-            board: 0,
-        };
-    }
-    if LAST_KIND < kind {
-        return Check::Refused {
-            number: 4,
-            board: 0,
-        };
-    }
+    let kind = Kind::try_from(kind)?;
     if n < FEWEST_BOARDS {
-        return Check::Refused {
-            number: 5,
-            board: 0,
-        };
+        return Err(Refusal::BoardCount);
     }
     if MOST_BOARDS < n {
-        return Check::Refused {
-            number: 5,
-            board: 0,
-        };
+        return Err(Refusal::BoardCount);
     }
-    Check::Ring { kind, n: n as u8 }
+    Ok(Shape { kind, n: n as u8 })
 }
 
-// What a walk over a ring's boards has seen: the cost of board 0, the first board whose cost differs from it (0 where none does), the sum of the
-// surpluses, and the last board's refusal of 7 to 9 (0 where it has none).
+// What a walk over a ring's boards has seen: the cost of board 0, the first board whose cost differs from it, and the sum of the surpluses.
 #[derive(Clone, Copy)]
-pub(crate) struct Seen {
-    pub(crate) first: u16,
-    pub(crate) unlike: u8,
-    pub(crate) sum: i32,
-    pub(crate) fault: u8,
+struct Seen {
+    first: u16,
+    unlike: Option<u8>,
+    sum: i32,
 }
 
-// A walk that has seen no board yet, of a ring whose board 0 has this cost.
-pub(crate) fn unseen(first: u16) -> Seen
-    ensures { result ≡ record { first = first; unlike = 0; sum = pos 0; fault = 0 } }
-{
-    Seen {
-        first,
-        unlike: 0,
-        sum: 0,
-        fault: 0,
-    }
-}
-
-// Where board i differs from board 0 and none did before, that board.
-fn first_unlike(seen: Seen, i: u8, cost: u16) -> u8
-    ensures { result ≡ seen_unlike seen i cost }
-{
-    if seen.unlike != 0 {
-        return seen.unlike;
-    }
-    if cost == seen.first { 0 } else { i }
-}
-
-// The walk with board i seen too.
-pub(crate) fn with_board(seen: Seen, i: u8, load: u16, surplus: i16, cost: u16) -> Seen
-    requires { mag seen.sum ≤ 32768 * 128 }
-    ensures { result ≡ seen_with seen i load surplus cost }
-{
-    Seen {
-        first: seen.first,
-        unlike: first_unlike(seen, i, cost),
-        sum: seen.sum + (surplus as i32),
-        fault: ring::fault(ring::Board::new(load, surplus, cost)),
-    }
-}
-
-// When all boards were seen, and none has a fault of 7 to 9: refusal 10 unless the kind is 2, then 11, or the ring.
-pub(crate) fn settled(kind: u8, n: u8, seen: Seen) -> Check
-    ensures { result ≡ settled_of kind n seen }
-{
-    let unlike = seen.unlike;
-    if kind != 2 {
-        if unlike != 0 {
-            return Check::Refused {
-                number: 10,
-                board: unlike,
-            };
+impl Seen {
+    // With no board seen yet, of a ring whose board 0 has this cost.
+    fn none(first: u16) -> Self
+        ensures { result ≡ record { first = first; unlike = None; sum = pos 0 } }
+    {
+        Seen {
+            first,
+            unlike: None,
+            sum: 0,
         }
     }
-    if seen.sum != 0 {
-        return Check::Refused {
-            number: 11,
-            board: 0,
-        };
+
+    // With board i seen too; or which of its numbers is outside its limits.
+    fn with(self, i: u8, board: Numbers) -> Result<Self, Outside>
+        requires { mag self.sum ≤ 32768 * 128 }
+        ensures { result ≡ seen_with self i board.load board.surplus board.cost }
+    {
+        let _ = Board::new(board.load, board.surplus, board.cost)?;
+        let unlike = (board.cost != self.first).then_some(i);
+        Ok(Seen {
+            first: self.first,
+            unlike: self.unlike.or(unlike),
+            sum: self.sum + i32::from(board.surplus),
+        })
     }
-    Check::Ring { kind, n }
+
+    // When all boards were seen: refusal 10 unless the kind is 2, then 11, or the ring.
+    fn settled(self, ring: Shape) -> Result<Shape, Refusal>
+        ensures { result ≡ settled_of ring self }
+    {
+        if ring.kind != Kind::MixedOneWay {
+            if let Some(board) = self.unlike {
+                return Err(Refusal::UnlikeCost { board });
+            }
+        }
+        if self.sum != 0 {
+            return Err(Refusal::Unbalanced);
+        }
+        Ok(ring)
+    }
+}
+
+// Refusals 7 to 11 of a ring's boards, or the ring.
+pub(crate) fn check<B: Boards>(ring: Shape, boards: &B) -> Result<Shape, Refusal>
+    requires n_bound { (1 ≤ ring.n) × (ring.n ≤ 128) }
+    requires boards_there { (i : ℕ) → i < ring.n → B.has boards.now i }
+    ensures { result ≡ ring_check ring (B.load boards.now) (B.surplus boards.now) (B.cost boards.now) }
+{
+    let mut seen = Seen::none(boards.numbers(0).cost);
+    // by board, whose number a refusal names; a proof doesn't learn what a closure in `map_err` answers, so the fault is matched
+    for i in 0..ring.n {
+        match seen.with(i, boards.numbers(i)) {
+            Ok(more) => seen = more,
+            Err(fault) => return Err(Refusal::BadBoard { fault, board: i }),
+        }
+    }
+    seen.settled(ring)
 }

@@ -1,115 +1,107 @@
 // The job writer: from a kind and three lists to a job's bytes in a lent buffer.
-ghost use Rattle.std.specs.Prelude.{◌≡◌, ◌++◌, ◌≤◌, length, drop};
+ghost use Rattle.std.specs.Prelude.{◌≡◌, ◌++◌, ◌≤◌, ◌<◌, length, drop};
 ghost use Rattle.ring.specs.Lists.{each, each_ℤ};
-ghost use Rattle.hop.specs.Refusals.{ring_check};
+ghost use Rattle.hop.specs.Kinds.{number_of};
 ghost use Rattle.hop.specs.Read.{job_length};
 ghost use Rattle.hop.specs.Write.{head_bytes, record_bytes, job_bytes, lists_of, written_of, buffer_of};
 
-use crate::bits::unsigned;
-use crate::rules::{settled, shape, unseen, with_board};
-use crate::{Check, Written, job_length};
+use crate::rules::{Boards, check, shape};
+use crate::{Numbers, Refusal, Shape, job_length};
 
-// Refusals 7 to 11 of n boards of lists, or the ring.
-fn boards(kind: u8, n: u8, loads: &[u16], surpluses: &[i16], costs: &[u16]) -> Check
-    requires { (1 ≤ n) × (n ≤ 128) × (n ≤ length loads.now) × (n ≤ length surpluses.now) × (n ≤ length costs.now) }
-    ensures { result ≡ ring_check kind n (each loads.now) (each_ℤ surpluses.now) (each costs.now) }
-{
-    let mut seen = unseen(costs[0]);
-    for i in 0..n {
-        let k = i as usize;
-        let surplus = surpluses[k];
-        seen = with_board(seen, i, loads[k], surplus, costs[k]);
-        let number = seen.fault;
-        if number != 0 {
-            return Check::Refused { number, board: i };
+// A writer's three lists, as the caller of `write` lends them, which C does too: the place of its boards' numbers.
+#[derive(Clone, Copy)]
+struct Lists<'a> {
+    loads: &'a [u16],
+    surpluses: &'a [i16],
+    costs: &'a [u16],
+}
+
+impl<'a> Boards for Lists<'a> {
+    ghost has = { λ l i. (i < length l.loads.now) × (i < length l.surpluses.now) × (i < length l.costs.now) };
+
+    ghost load = { λ l i. each l.loads.now i };
+
+    ghost surplus = { λ l i. each_ℤ l.surpluses.now i };
+
+    ghost cost = { λ l i. each l.costs.now i };
+
+    fn numbers(&self, i: u8) -> Numbers {
+        let k = usize::from(i);
+        Numbers {
+            load: self.loads[k],
+            surplus: self.surpluses[k],
+            cost: self.costs[k],
         }
     }
-    settled(kind, n, seen)
 }
 
 // Refusals 4 to 11 of a writer's lists, or the kind and n.
-fn lists(kind: u8, loads: &[u16], surpluses: &[i16], costs: &[u16]) -> Check
-    ensures { result ≡ lists_of kind loads.now surpluses.now costs.now }
+fn check_lists(kind: u8, lists: &Lists) -> Result<Shape, Refusal>
+    ensures { result ≡ lists_of kind lists.now.loads.now lists.now.surpluses.now lists.now.costs.now }
 {
-    let shaped = shape(kind, loads.len());
-    let Check::Ring { kind, n } = shaped else {
-        return shaped;
-    };
-    let many = n as usize;
-    if surpluses.len() != many {
-        return Check::Refused {
-            number: 6,
-            board: 0,
-        };
+    let n = lists.loads.len();
+    let shaped = shape(kind, n)?;
+    if lists.surpluses.len() != n {
+        return Err(Refusal::WrongLength);
     }
-    if costs.len() != many {
-        return Check::Refused {
-            number: 6,
-            board: 0,
-        };
+    if lists.costs.len() != n {
+        return Err(Refusal::WrongLength);
     }
-    boards(kind, n, loads, surpluses, costs)
+    check(shaped, lists)
 }
 
 // The first seven bytes of a job.
-fn put_head(buf: &mut [u8], kind: u8, n: u8)
+fn put_head(buf: &mut [u8], ring: Shape)
     requires { 7 ≤ length buf.old }
-    ensures { buf.new ≡ head_bytes kind n ++ drop 7 buf.old }
+    ensures { buf.new ≡ head_bytes (number_of ring.kind) ring.n ++ drop 7 buf.old }
 {
-    buf[0] = b'H';
-    buf[1] = b'O';
-    buf[2] = b'P';
-    buf[3] = 0;
-    buf[4] = 1;
-    buf[5] = kind;
-    buf[6] = n;
+    buf[..7].copy_from_slice(&[b'H', b'O', b'P', 0, 1, ring.kind.number(), ring.n]);
 }
 
 // A board's record, at the front of the part that begins at its place.
-fn put_board(part: &mut [u8], load: u16, surplus: i16, cost: u16)
+fn put_board(part: &mut [u8], board: Numbers)
     requires { 6 ≤ length part.old }
-    ensures { part.new ≡ record_bytes load surplus cost ++ drop 6 part.old }
+    ensures { part.new ≡ record_bytes board.load board.surplus board.cost ++ drop 6 part.old }
 {
-    let bits = unsigned(surplus);
-    part[0] = (load / 256 % 256) as u8;
-    part[1] = (load % 256) as u8;
-    part[2] = (bits / 256 % 256) as u8;
-    part[3] = (bits % 256) as u8;
-    part[4] = (cost / 256 % 256) as u8;
-    part[5] = (cost % 256) as u8;
+    part[..2].copy_from_slice(&board.load.to_be_bytes());
+    part[2..4].copy_from_slice(&board.surplus.to_be_bytes());
+    part[4..6].copy_from_slice(&board.cost.to_be_bytes());
 }
 
 // The bytes of a job, at the front of a buffer with room for them.
-fn put(buf: &mut [u8], kind: u8, n: u8, loads: &[u16], surpluses: &[i16], costs: &[u16])
-    requires { (job_length n ≤ length buf.old) × (n ≤ length loads.now) × (n ≤ length surpluses.now) × (n ≤ length costs.now) }
-    ensures { buf.new ≡ job_bytes kind n (each loads.now) (each_ℤ surpluses.now) (each costs.now) ++ drop (job_length n) buf.old }
+fn put(buf: &mut [u8], ring: Shape, lists: &Lists)
+    requires room { job_length ring.n ≤ length buf.old }
+    requires long { (ring.n ≤ length lists.now.loads.now) × (ring.n ≤ length lists.now.surpluses.now) × (ring.n ≤ length lists.now.costs.now) }
+    ensures { buf.new ≡ job_bytes (number_of ring.kind) ring.n (each lists.now.loads.now) (each_ℤ lists.now.surpluses.now) (each lists.now.costs.now) ++ drop (job_length ring.n) buf.old }
 {
-    put_head(buf, kind, n);
-    for i in 0..n {
-        let k = i as usize;
-        let at = job_length(i);
-        let surplus = surpluses[k];
-        put_board(&mut buf[at..], loads[k], surplus, costs[k]);
+    put_head(buf, ring);
+    // by board, since a proof knows nothing of what the parts of `chunks_exact_mut` end as
+    for i in 0..ring.n {
+        put_board(&mut buf[job_length(i)..], lists.numbers(i));
     }
 }
 
 // The job of a kind and three lists, written at the front of a buffer; or its first refusal, with the buffer as it was.
-pub fn write(kind: u8, loads: &[u16], surpluses: &[i16], costs: &[u16], buf: &mut [u8]) -> Written
+pub fn write(
+    kind: u8,
+    loads: &[u16],
+    surpluses: &[i16],
+    costs: &[u16],
+    buf: &mut [u8],
+) -> Result<usize, Refusal>
     ensures value { result ≡ written_of kind loads.now surpluses.now costs.now (length buf.old) }
     ensures buf_after { buf.new ≡ buffer_of kind loads.now surpluses.now costs.now buf.old }
 {
-    match lists(kind, loads, surpluses, costs) {
-        Check::Refused { number, board } => Written::Refused { number, board },
-        Check::Ring { kind: _, n } => {
-            let length = job_length(n);
-            if buf.len() < length {
-                return Written::Refused {
-                    number: 13,
-                    board: 0,
-                };
-            }
-            put(buf, kind, n, loads, surpluses, costs);
-            Written::Bytes(length)
-        }
+    let lists = Lists {
+        loads,
+        surpluses,
+        costs,
+    };
+    let ring = check_lists(kind, &lists)?;
+    let length = job_length(ring.n);
+    if buf.len() < length {
+        return Err(Refusal::NoRoom);
     }
+    put(buf, ring, &lists);
+    Ok(length)
 }
