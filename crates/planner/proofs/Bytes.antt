@@ -1,9 +1,6 @@
 -- How many bytes a plan's parts have, and its records as pieces, link by link. Assumes nothing.
-use mathlib.Core.Path.{◌≡◌, refl, sym, ap, ◌∙◌}
-use mathlib.Core.List.{List, [], ◌∷◌, ◌++◌, append_assoc, append-nil}
-use Prim.Native.Nat.{ℕ, zero, suc, ◌+◌, ◌*◌, ◌-◌, ◌<◌}
-use native.Mathlib.Omega.{arith}
-use lib.ListN.{length, take, drop, length-append}
+use Rattle.std.proofs.Common.{◌≡◌, refl, sym, ap, ◌∙◌, List, [], ◌∷◌, ◌++◌, append_assoc, append-nil, ℕ, zero, suc, ◌+◌, ◌*◌, ◌-◌, ◌/◌, ◌<◌, arith, length, take, drop, length-append}
+use native.Mathlib.Nat.{div-div-eq-div-mul}
 use lib.Seq.{take_at, drop_at}
 use Rattle.ring.specs.Numbers.{sum}
 use Rattle.ring.specs.Lists.{joined}
@@ -15,6 +12,10 @@ use Rattle.hop.proofs.Pieces.{joined_long}
 use Rattle.ring.specs.Bytes.{send_bytes, records_of, plan_head}
 use Rattle.planner.specs.PlanBytes.{plan_bytes}
 use Rattle.planner.specs.Links.{link_bytes}
+
+-- the highest of a number's four bytes, as the code has it
+pub high_byte : (x : ℕ) → x / 65536 / 256 ≡ x / 16777216
+high_byte x = div-div-eq-div-mul x 65536 256
 
 pub send_long : (s : Send) → length (send_bytes s) ≡ 6
 unfolding send_bytes

@@ -1,11 +1,6 @@
 -- From bytes to bytes: what `plan` answers and leaves, by its contract, for every job and every lent buffer. Each statement stands under
 -- the words of document 01 that it is. Assumes nothing.
-use mathlib.Core.Path.{◌≡◌, refl, sym, ap, subst, ◌∙◌}
-use mathlib.Core.List.{List, ◌++◌}
-use Prim.Native.Nat.{ℕ, ◌+◌, ◌*◌, ◌≤◌, ◌<◌}
-use native.Mathlib.Omega.{arith}
-use lib.IntN.{pos, ◌-ℤ◌}
-use lib.ListN.{length, take, drop, length-append, length-drop}
+use Rattle.std.proofs.Common.{◌≡◌, refl, sym, ap, subst, ◌∙◌, List, ◌++◌, ℕ, ◌+◌, ◌*◌, ◌≤◌, ◌<◌, pos, ◌-ℤ◌, length, take, drop, length-append, length-drop, Result, Ok, Err, arith}
 use lib.Seq.{drop_at}
 use borrow.Author.Tests.{lt-ltb, le-ltb}
 use Rattle.ring.specs.Numbers.{sum}
@@ -13,27 +8,32 @@ use Rattle.ring.specs.Boards.{Ring, Accepted}
 use Rattle.ring.specs.Lists.{EachTwo, each, each_ℤ}
 use Rattle.ring.specs.Schedule.{Send, Valid, load_at, finish}
 use Rattle.ring.specs.Plan.{offset, link_sends, carries, plan, finish_of, moves, tight}
+use Rattle.ring.specs.Bytes.{InOrder, plan_head, records_of}
 use Rattle.ring.proofs.Offset.{fits}
 use Rattle.ring.proofs.Bounds.{moves_most}
 use Rattle.ring.proofs.Demand3.{plan_is_valid, finish_is, none_sooner, moves_is, in_order, ends_with, finish_fits}
-use Rattle.hop.specs.declared.Check.TheVariants.{Ring as Read, Refused as Unread}
+use Rattle.hop.specs.declared.Shape.{Shape}
 use Rattle.hop.specs.declared.Job.{Job}
+use Rattle.hop.specs.declared.refusals.Refusal.{Refusal}
+use Rattle.hop.specs.declared.refusals.Refusal.TheVariants.{NoRoom}
 use Rattle.hop.specs.Read.{job_of}
 use Rattle.hop.proofs.Accepted.{job_accepted, after_is}
 use Rattle.planner.specs.declared.Planned.{Planned}
-use Rattle.planner.specs.declared.Planned.TheVariants.{Plan, Refused}
-use Rattle.ring.specs.Bytes.{InOrder, plan_head, records_of}
 use Rattle.planner.specs.PlanBytes.{plan_bytes, plan_length, finish_in, moves_in, plan_in}
 use Rattle.planner.specs.Answer.{answer_for, memory_for, ring_for, plan_answer, plan_memory}
 use Rattle.planner.proofs.Bytes.{head_long, records_long, link_begins}
 use Rattle.planner.proofs.ReadBack.{fitting, finish_back, moves_back, plan_back}
 use Rattle.planner.proofs.Reading.{answer_known, memory_known}
 
+-- the numbers of a ring's plan
+abbrev pub numbers_of : Ring → Planned
+numbers_of r = record { finish = finish_of r (offset r); moves = moves r (offset r); tight = tight r (offset r) }
+
 -- the answer p, and the buffer ys that held xs, where the job is ring r and the buffer has room for its plan. `plan_in ys` are the sends
 -- that the buffer's bytes say
-pub record Closed (job : Job) (r : Ring) (xs ys : List ℕ) (p : Planned) : Type 0 where
+pub record Closed (job : Job) (r : Ring) (xs ys : List ℕ) (p : Result Planned Refusal) : Type 0 where
   -- "it returns .. finish, moves and tight link (planner and query)"
-  pub answer : p ≡ Plan (finish_of r (offset r)) (moves r (offset r)) (tight r (offset r))
+  pub answer : p ≡ Ok (numbers_of r)
   -- "Plan: mark "PLN", version (16 bits, value 1), kind (1), n (1), finish (32), moves (32)"
   pub head : take 15 ys ≡ plan_head r.kind r.n (finish_of r (offset r)) (moves r (offset r))
   -- "then a record for each send": the records say the sends of section "The plan"
@@ -69,7 +69,7 @@ module _ (r : Ring) (ok : Accepted r) (xs : List ℕ) where
   few = omega (arith, moves_most r ok (offset r) (fits r ok))
 
   -- the bytes of a plan, and then what was there
-  laid : (job : Job) → Left job r → plan_length r ≤ length xs → Closed job r xs (plan_bytes r ++ drop (plan_length r) xs) (Plan (finish_of r (offset r)) (moves r (offset r)) (tight r (offset r)))
+  laid : (job : Job) → Left job r → plan_length r ≤ length xs → Closed job r xs (plan_bytes r ++ drop (plan_length r) xs) (Ok (numbers_of r))
   unfolding plan_head
   laid job after room =
       let tail = drop (plan_length r) xs in
@@ -91,33 +91,33 @@ module _ (r : Ring) (ok : Accepted r) (xs : List ℕ) where
         long = length-append (plan_bytes r) tail ∙ omega (arith, bytes_long r ok, length-drop (plan_length r) xs);
       }
 
-  has_room : plan_length r ≤ length xs → answer_for r (length xs) ≡ Plan (finish_of r (offset r)) (moves r (offset r)) (tight r (offset r))
+  has_room : plan_length r ≤ length xs → answer_for r (length xs) ≡ Ok (numbers_of r)
   has_room room = rw (le-ltb 4294967295 (finish_of r (offset r)) (omega (arith, finish_fits r ok)), le-ltb (length xs) (plan_length r) room)
 
-  short : length xs < plan_length r → answer_for r (length xs) ≡ Refused 13 0
+  short : length xs < plan_length r → answer_for r (length xs) ≡ Err NoRoom
   short room = rw (le-ltb 4294967295 (finish_of r (offset r)) (omega (arith, finish_fits r ok)), lt-ltb (length xs) (plan_length r) room)
 
 module _ (s xs : List ℕ) where
-  module _ (kind n : ℕ) (read : (job_of s).answer ≡ Read kind n) where
+  module _ (shape : Shape) (read : (job_of s).answer ≡ Ok shape) where
     -- an accepted job, and a buffer with room
-    pub closed : plan_length (ring_for (job_of s) kind n) ≤ length xs → Closed (job_of s) (ring_for (job_of s) kind n) xs (plan_memory (job_of s) xs) (plan_answer (job_of s) (length xs))
+    pub closed : plan_length (ring_for (job_of s) shape) ≤ length xs → Closed (job_of s) (ring_for (job_of s) shape) xs (plan_memory (job_of s) xs) (plan_answer (job_of s) (length xs))
     closed room =
-        let r = ring_for (job_of s) kind n in
-        let ok = job_accepted s kind n read in
+        let r = ring_for (job_of s) shape in
+        let ok = job_accepted s shape read in
         let a = has_room r ok xs room in
-        let p : plan_answer (job_of s) (length xs) ≡ Plan (finish_of r (offset r)) (moves r (offset r)) (tight r (offset r)) = sym (answer_known s (job_of s) refl (Read kind n) read (length xs)) ∙ a in
-        let m : plan_memory (job_of s) xs ≡ plan_bytes r ++ drop (plan_length r) xs = sym (memory_known s (job_of s) refl (Read kind n) read xs) ∙ ap (λ (q : Planned). memory_for r q xs) a in
-        subst (λ (q : Planned). Closed (job_of s) r xs (plan_memory (job_of s) xs) q) (sym p)
-        (subst (λ (ys : List ℕ). Closed (job_of s) r xs ys (Plan (finish_of r (offset r)) (moves r (offset r)) (tight r (offset r)))) (sym m) (laid r ok xs (job_of s) (after_is s kind n read) room))
+        let p : plan_answer (job_of s) (length xs) ≡ Ok (numbers_of r) = sym (answer_known s (job_of s) refl (Ok shape) read (length xs)) ∙ a in
+        let m : plan_memory (job_of s) xs ≡ plan_bytes r ++ drop (plan_length r) xs = sym (memory_known s (job_of s) refl (Ok shape) read xs) ∙ ap (λ (q : Result Planned Refusal). memory_for r q xs) a in
+        subst (λ (q : Result Planned Refusal). Closed (job_of s) r xs (plan_memory (job_of s) xs) q) (sym p)
+        (subst (λ (ys : List ℕ). Closed (job_of s) r xs ys (Ok (numbers_of r))) (sym m) (laid r ok xs (job_of s) (after_is s shape read) room))
 
     -- "13: result longer than the lent byte buffer"; "every lent buffer keeps its bytes"
-    pub no_room : length xs < plan_length (ring_for (job_of s) kind n) → (plan_answer (job_of s) (length xs) ≡ Refused 13 0) × (plan_memory (job_of s) xs ≡ xs)
+    pub no_room : length xs < plan_length (ring_for (job_of s) shape) → (plan_answer (job_of s) (length xs) ≡ Err NoRoom) × (plan_memory (job_of s) xs ≡ xs)
     no_room room =
-        let r = ring_for (job_of s) kind n in
-        let a = short r (job_accepted s kind n read) xs room in
-        (sym (answer_known s (job_of s) refl (Read kind n) read (length xs)) ∙ a, sym (memory_known s (job_of s) refl (Read kind n) read xs) ∙ ap (λ (q : Planned). memory_for r q xs) a)
+        let r = ring_for (job_of s) shape in
+        let a = short r (job_accepted s shape read) xs room in
+        (sym (answer_known s (job_of s) refl (Ok shape) read (length xs)) ∙ a, sym (memory_known s (job_of s) refl (Ok shape) read xs) ∙ ap (λ (q : Result Planned Refusal). memory_for r q xs) a)
 
   -- "A refused job stops the planner at once with that number."
-  pub stops : (number board : ℕ) → (job_of s).answer ≡ Unread number board → (plan_answer (job_of s) (length xs) ≡ Refused number board) × (plan_memory (job_of s) xs ≡ xs)
-  stops number board read =
-      (sym (answer_known s (job_of s) refl (Unread number board) read (length xs)), sym (memory_known s (job_of s) refl (Unread number board) read xs))
+  pub stops : (refusal : Refusal) → (job_of s).answer ≡ Err refusal → (plan_answer (job_of s) (length xs) ≡ Err refusal) × (plan_memory (job_of s) xs ≡ xs)
+  stops refusal read =
+      (sym (answer_known s (job_of s) refl (Err refusal) read (length xs)), sym (memory_known s (job_of s) refl (Err refusal) read xs))

@@ -1,10 +1,5 @@
 -- A buffer whose links are written one after the other, each six bytes for each of its sends. Assumes nothing.
-use mathlib.Core.Path.{◌≡◌, refl, sym, ap, ◌∙◌}
-use mathlib.Core.List.{List, [], ◌++◌, append_assoc, append-nil}
-use Prim.Native.Nat.{ℕ, suc, ◌+◌, ◌*◌, ◌-◌, ◌≤◌, ◌<◌}
-use native.Mathlib.Omega.{arith}
-use native.Mathlib.Numerals.{add-one}
-use lib.ListN.{length, take, drop, length-append, length-drop, take-append-drop, drop_of_length-le}
+use Rattle.std.proofs.Common.{◌≡◌, refl, sym, ap, ◌∙◌, List, [], ◌++◌, append_assoc, append-nil, ℕ, suc, ◌+◌, ◌*◌, ◌-◌, ◌≤◌, ◌<◌, arith, add-one, length, take, drop, length-append, length-drop, take-append-drop, drop_of_length-le}
 use lib.Seq.{take_all, take_at, drop_at, drop-drop, length-take-le}
 use borrow.Rule.Slice.PartMut.{put_mid, mid_of}
 use Rattle.ring.specs.Numbers.{sum}
@@ -20,6 +15,17 @@ sum_within w i n h = sum_mono w (suc i) n h
 -- nothing is written yet, from byte `from` on
 pub begun : (xs : List ℕ) (from : ℕ) → from ≤ length xs → Begins xs (take from xs ++ []) from xs
 begun xs from h = record { is = simp (append-nil, take-append-drop); long = simp append-nil (length-take-le from xs h); same = refl }
+
+-- q was written after the k bytes p that stand at the front
+pub placed : {xs p now : List ℕ} {k : ℕ} → Begins xs p k now → (j : ℕ) (q ys : List ℕ) → length q ≡ j → k + j ≤ length xs → ys ≡ (take k now ++ q) ++ drop (k + j) now
+    → Begins xs (p ++ q) (k + j) ys
+placed {xs} {p} {now} {k} b j q ys long fits wrote =
+    let front : take k now ≡ p = ap (take k) b.is ∙ take_at p (drop k xs) k b.long in
+    let back : drop (k + j) now ≡ drop (k + j) xs =
+    ap (drop (k + j)) b.is ∙ sym (drop-drop j k (p ++ drop k xs)) ∙ ap (drop j) (drop_at p (drop k xs) k b.long) ∙ drop-drop j k xs in
+    let is : ys ≡ (p ++ q) ++ drop (k + j) xs = wrote ∙ (λ t. (front t ++ q) ++ back t) in
+    let l : length (p ++ q) ≡ k + j = simp length-append (omega (arith, b.long)) in
+    record { is = is; long = l; same = rw is (simp (length-append, length-drop) (omega (arith, l, long, b.long))) }
 
 -- q was written in the part that begins at byte `from`, after the k bytes p that stand at its front
 pub put_in : {xs now : List ℕ} (from k j : ℕ) (p q ys : List ℕ) → Begins xs (take from xs ++ p) (from + k) now → from ≤ length xs → length p ≡ k → length q ≡ j → from + k + j ≤ length xs

@@ -1,9 +1,5 @@
 -- A buffer in which a part was written over, and one whose parts stand one after the other. Assumes nothing.
-use mathlib.Core.Path.{◌≡◌, refl, sym, ap, ◌∙◌}
-use mathlib.Core.List.{List, ◌++◌, append_assoc}
-use Prim.Native.Nat.{ℕ, zero, suc, ◌+◌, ◌*◌, ◌-◌, ◌≤◌, ◌<◌}
-use native.Mathlib.Omega.{arith}
-use lib.ListN.{length, take, drop, get_or, length-append, length-drop, take-append-drop}
+use Rattle.std.proofs.Common.{◌≡◌, refl, sym, ap, ◌∙◌, List, ◌++◌, append_assoc, ℕ, zero, suc, ◌+◌, ◌*◌, ◌-◌, ◌≤◌, ◌<◌, arith, length, take, drop, get_or, length-append, length-drop, take-append-drop}
 use lib.Seq.{take_at, drop_at, drop-drop, take-add, take-take, take-append-le, drop-append-add, length-take-le, get_or-take, get_or-drop}
 use Rattle.ring.specs.Numbers.{sum}
 use Rattle.ring.specs.Lists.{joined}

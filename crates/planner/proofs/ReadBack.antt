@@ -1,10 +1,5 @@
 -- What was written is read back: a number, a send, the sends, the finish and the moves. Assumes nothing.
-use mathlib.Core.Path.{◌≡◌, refl, ap, ◌∙◌, sym}
-use mathlib.Core.List.{List, [], ◌∷◌, ◌++◌, append_assoc}
-use mathlib.Core.Logic.{⊎_elim}
-use Prim.Native.Nat.{ℕ, ◌*◌, ◌≤◌, ◌<◌, zero, suc, ◌+◌}
-use native.Mathlib.Omega.{arith}
-use lib.ListN.{length, take, get_or}
+use Rattle.std.proofs.Common.{◌≡◌, refl, ap, ◌∙◌, sym, List, [], ◌∷◌, ◌++◌, append_assoc, ⊎_elim, ℕ, ◌*◌, ◌≤◌, ◌<◌, zero, suc, ◌+◌, arith, length, take, get_or}
 use lib.Seq.{take-length, get_or-append-add}
 use Rattle.ring.specs.Lists.{Each}
 use Rattle.ring.specs.Boards.{Ring}

@@ -1,19 +1,11 @@
 -- Kinds 1 and 2: the records of a link whose sends wait are those of the plan where the records of the link before are; so are those of all links
 -- when the ring was gone round from one that carries nothing. Assumes nothing.
-use mathlib.Core.Path.{◌≡◌, refl, sym, ap, ◌∙◌}
-use mathlib.Core.Bool.{Bool, true, false}
-use mathlib.Core.List.{List, ◌++◌}
-use mathlib.Core.Logic.{◌⊎◌, inl, inr}
-use Prim.Native.Nat.{ℕ, zero, suc, ◌+◌, ◌*◌, ◌-◌, ◌≤◌, ◌<◌}
-use native.Mathlib.Omega.{arith}
-use lib.Dec.{eqb, ltb}
-use lib.IntN.{ℤ, pos, ◌+ℤ◌, ◌-ℤ◌}
-use lib.ListN.{length, take, drop, get_or}
+use Rattle.std.proofs.Common.{◌≡◌, refl, sym, ap, ◌∙◌, Bool, true, false, List, ◌++◌, ◌⊎◌, inl, inr, ℕ, zero, suc, ◌+◌, ◌*◌, ◌-◌, ◌≤◌, ◌<◌, arith, eqb, ltb, ℤ, pos, ◌+ℤ◌, ◌-ℤ◌, length, take, drop, get_or}
 use borrow.Author.Tests.{lt-ltb, le-ltb, ltb-true, ltb-false, eqb-true}
 use Rattle.ring.specs.Numbers.{pick, sum}
 use Rattle.ring.specs.Lists.{joined}
 use Rattle.ring.specs.Boards.{Ring, Accepted, next, prev}
-use Rattle.ring.specs.Plan.{behind, carries, direction_of, start_of, fed, finish_of, moves, plan}
+use Rattle.ring.specs.Plan.{behind, carries, direction_of, start_of, fed, moves, plan}
 use Rattle.ring.specs.Bytes.{word_at, send_bytes, records_of}
 use Rattle.ring.proofs.Tests.{le_lt}
 use Rattle.ring.proofs.Joined.{joined_same}
@@ -21,7 +13,7 @@ use Rattle.ring.proofs.Neighbours.{prev_below, next_below, prev_next}
 use Rattle.ring.proofs.Level.{One, none_behind, ahead_step, comes}
 use Rattle.ring.proofs.Waiting.{waits}
 use Rattle.ring.proofs.Best.{timed}
-use Rattle.ring.proofs.Bounds.{moves_most}
+use Rattle.ring.proofs.Bounds.{moves_most, finish_most}
 use Rattle.planner.specs.declared.links.Feed.{Feed}
 use Rattle.planner.specs.declared.links.Place.{Place}
 use Rattle.planner.specs.PlanBytes.{record_place}
@@ -29,7 +21,7 @@ use Rattle.planner.specs.Links.{link_bytes, arrives_in, start_fed, place_after, 
 use Rattle.planner.proofs.Bytes.{send_long, link_long, records_plan}
 use Rattle.planner.proofs.Grow.{sum_within}
 use Rattle.planner.proofs.ReadBack.{word_back}
-use Rattle.planner.proofs.SumRisen.{gained}
+use Rattle.planner.proofs.Raising.{gained}
 use Rattle.planner.proofs.Parts.{part, laid, laid_long, laid_here, laid_before, laid_after, part_before, part_after, word_same, word_in, whole}
 use Rattle.hop.proofs.Pieces.{joined_at}
 
@@ -121,16 +113,16 @@ module _ (r : Ring) (o : ℕ) where
     pub rest : drop (place_of r.n) now ≡ drop (place_of r.n) was
     pub long : length now ≡ length was
 
-  module _ (ok : Accepted r) (one : One r o) (soon : finish_of r o < 4294967296) where
+  module _ (ok : Accepted r) (one : One r o) where
     -- what link l carries goes forward
     forward : (l : ℕ) → l < r.n → direction_of r o l ≡ 0
     forward l h = rw (le-ltb 0 (behind r o l) (omega (arith, none_behind r o ok one l h)))
 
     start_few : (l x : ℕ) → l < r.n → x < carries r o l → start_of r o l (suc x) < 4294967296
-    start_few l x h k = omega (arith, (timed r o ok (inr one)).ended l x h k)
+    start_few l x h k = omega (arith, (timed r o ok (inr one)).ended l x h k, finish_most r ok o (inr one))
 
     -- all places are within the plan, which is not long
-    pub place_last : record_place (moves r o) ≡ place_of r.n
+    place_last : record_place (moves r o) ≡ place_of r.n
     unfolding moves
     place_last = refl
 

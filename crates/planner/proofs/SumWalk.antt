@@ -1,8 +1,5 @@
 -- The greatest and the lowest place of the greatest, from the numbers below a bound one after the other. Assumes nothing.
-use mathlib.Core.Path.{◌≡◌, refl, ap, ◌∙◌, sym}
-use Prim.Native.Nat.{ℕ, zero, suc, ◌-◌, ◌≤◌, max}
-use native.Mathlib.Omega.{arith}
-use lib.Dec.{ltb}
+use Rattle.std.proofs.Common.{◌≡◌, refl, ap, ◌∙◌, sym, ℕ, zero, suc, ◌-◌, ◌≤◌, max, arith, ltb}
 use borrow.Author.Tests.{lt-ltb}
 use Rattle.ring.specs.Numbers.{pick, greatest, peak}
 use Rattle.ring.proofs.Sums.{peak_is}

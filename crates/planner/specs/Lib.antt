@@ -2,5 +2,8 @@ pub mod PlanBytes
 pub mod Answer
 pub mod Traffic
 pub mod Turn
+pub mod Lent
+pub mod Held
+pub mod Levels
 pub mod Outline
 pub mod Links

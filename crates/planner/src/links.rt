@@ -1,16 +1,18 @@
 // The records of the links. A link's sends that wait are started by the records of the link before, which stand in the plan already: nothing is kept
 // beside them, and the time goes by the sends.
-ghost use Rattle.std.specs.Prelude.{◌≡◌, ◌++◌, ◌+◌, ◌*◌, ◌-◌, ◌<◌, ◌≤◌, max, length, take, drop};
-ghost use Rattle.ring.specs.Numbers.{sum};
-ghost use Rattle.ring.specs.Boards.{ring_in};
-ghost use Rattle.ring.specs.Plan.{offset, finish_of};
-ghost use Rattle.ring.specs.Bytes.{send_bytes};
-ghost use Rattle.planner.specs.PlanBytes.{record_place, plan_length};
-ghost use Rattle.planner.specs.Outline.{between, carries_by, Lent, outline_of};
-ghost use Rattle.planner.specs.Links.{link_bytes, direction_by, start_two, arrives_in, start_fed, Idle, place_after, Fed, BothWays, two_way_after, links_after};
+ghost use Rattle.std.specs.Prelude.{◌≡◌, ◌++◌, ◌+◌, ◌*◌, ◌-◌, ◌<◌, ◌≤◌, length, take, drop};
+ghost use Rattle.ring.specs.Plan as plan;
+ghost use Rattle.hop.specs.Kinds.{number_of};
+ghost use Rattle.planner.specs.Held.{ring_held};
+ghost use Rattle.planner.specs.PlanBytes.{plan_length};
+ghost use Rattle.planner.specs.Outline.{outline_of};
+ghost use Rattle.planner.specs.Links.{link_bytes, direction_by, start_two, arrives_in, start_fed, PlaceOf, place_after, Fed, links_after};
 
-use crate::records::{put_record, put_run};
-use crate::sums::{Outline, apart, risen};
+use crate::accepted::AcceptedRing;
+use crate::levels::risen;
+use crate::records::{Direction, HEAD, put_run, put_send};
+use crate::sums::Outline;
+use hop::Kind;
 use ring::{Items, Ticks, link_time};
 
 // A link, and the byte of the plan at which its records begin.
@@ -31,34 +33,32 @@ struct Feed {
 
 // A link of a two-way ring: forward from tick 0 on, or back up to the last round.
 fn put_two_way(part: &mut [u8], link: u8, level: u32, offset: u32, rounds: u32, cost: u16)
-    requires fits { 6 * between level offset ≤ length part.old }
+    requires fits { 6 * ((level - offset) + (offset - level)) ≤ length part.old }
     requires in_time { (offset - level ≤ rounds) × (rounds * cost < 4294967296) }
-    ensures { part.new ≡ link_bytes link (direction_by level offset) (start_two level offset rounds cost) (between level offset) ++ drop (6 * between level offset) part.old }
+    ensures { part.new ≡ link_bytes link (direction_by level offset) (start_two level offset rounds cost) ((level - offset) + (offset - level)) ++ drop (6 * ((level - offset) + (offset - level))) part.old }
 {
     if level < offset {
         let items = offset - level;
         let first = link_time(cost, Items(rounds - items));
-        put_run(part, link, 1, items, first.0, cost);
+        put_run(part, link, Direction::Back, items, first.0, cost);
     } else {
-        put_run(part, link, 0, level - offset, 0, cost);
+        put_run(part, link, Direction::Forward, level - offset, 0, cost);
     }
 }
 
 // The links of a two-way ring, each in the part that begins at its offset.
-fn put_two_ways(buf: &mut [u8], n: usize, surpluses: &[i16], costs: &[u16], o: Outline)
-    requires both_ways { BothWays n surpluses.now costs.now o }
-    requires fits { 15 + 6 * sum (carries_by o.total surpluses.now o.offset) n ≤ length buf.old }
-    ensures { buf.new ≡ two_way_after n surpluses.now costs.now o buf.old }
+fn put_two_ways(buf: &mut [u8], ring: &AcceptedRing, o: Outline)
+    requires two_way { number_of ring.now.shape.kind ≡ 3 }
+    requires known { o ≡ outline_of (ring_held ring.now) }
+    requires fits { plan_length (ring_held ring.now) ≤ length buf.old }
+    ensures { buf.new ≡ links_after (ring_held ring.now) buf.old }
 {
-    let rounds = o.rounds;
     let offset = o.offset;
-    let mut level = o.total;
-    let mut at = 15;
-    for i in 0..n {
-        let surplus = surpluses[i];
-        level = risen(level, surplus);
-        put_two_way(&mut buf[at..], i as u8, level, offset, rounds.0, costs[i]);
-        at += 6 * (apart(level, offset) as usize);
+    let rounds = o.rounds;
+    let mut at = HEAD;
+    for (link, (level, cost)) in ring.levels().zip(ring.costs).enumerate() {
+        put_two_way(&mut buf[at..], link as u8, level, offset, rounds.0, *cost);
+        at += 6 * (level.abs_diff(offset) as usize);
     }
 }
 
@@ -67,30 +67,12 @@ fn arrival(buf: &[u8], feed: Feed, x: usize) -> Ticks
     requires { feed.load ≤ x → feed.from + 6 * (x - feed.load) + 6 ≤ length buf.now }
     ensures { (result.0 ≡ arrives_in buf.now feed x) × (result.0 < 4294967296 + 65536) }
 {
-    let load = feed.load;
-    if x < load {
+    if x < feed.load {
         return Ticks(0);
     }
-    let at = feed.from + 6 * (x - load) + 2;
-    let low = at + 2;
-    let start = ring::quad(buf[at], buf[at + 1], buf[low], buf[low + 1]);
+    let at = feed.from + 6 * (x - feed.load) + 2;
+    let start = u32::from_be_bytes([buf[at], buf[at + 1], buf[at + 2], buf[at + 3]]);
     ring::end_of(start, feed.cost)
-}
-
-// The later of two.
-fn later(a: Ticks, b: Ticks) -> Ticks
-    ensures { result.0 ≡ max a.0 b.0 }
-{
-    if a.0 < b.0 { b } else { a }
-}
-
-// Send x of a one-way link, whose part begins at its offset.
-fn put_send(part: &mut [u8], link: u8, x: usize, start: u64)
-    requires { 6 * x + 6 ≤ length part.old }
-    ensures { part.new ≡ (take (6 * x) part.old ++ send_bytes (record { link = link; direction = 0; start = start })) ++ drop (6 * x + 6) part.old }
-{
-    let at = 6 * x;
-    put_record(&mut part[at..], link, 0, start);
 }
 
 // A link of a one-way ring, in its place: each send starts when the one before it has ended and the item that it waits for is there.
@@ -98,34 +80,33 @@ fn put_one_way(buf: &mut [u8], here: Place, count: u32, cost: u16, feed: Feed)
     requires { Fed buf.old here count feed }
     ensures { buf.new ≡ (take here.at buf.old ++ link_bytes here.link 0 (start_fed (arrives_in buf.old feed) cost) count) ++ drop (here.at + 6 * count) buf.old }
 {
+    // by number, since the records that the sends wait for stand in the same buffer
     let n = count as usize;
     let link = here.link as u8;
-    let at = here.at;
+    let from = here.at;
     let mut free = Ticks(0);
     for x in 0..n {
-        let start = later(free, arrival(buf, feed, x)).0;
-        put_send(&mut buf[at..], link, x, start);
-        free = Ticks(start + (cost as u64));
+        let start = free.max(arrival(buf, feed, x)).0;
+        put_send(&mut buf[from..], link, Direction::Forward, x, start);
+        free = Ticks(start + u64::from(cost));
     }
 }
 
-// A link of n that carries nothing. The offset is the level of one, so the walk comes to it.
-fn idle_of(n: usize, surpluses: &[i16], total: u32, offset: u32) -> Place
-    requires { Idle n total surpluses.now offset }
-    ensures { (result.link < n) × (carries_by total surpluses.now offset result.link ≡ 0) × (result.at ≡ record_place (sum (carries_by total surpluses.now offset) result.link)) }
+// A link of a one-way ring that carries nothing. The offset is the level of one, so the walk comes to it.
+fn idle_of(ring: &AcceptedRing, offset: u32) -> Place
+    requires one_way { number_of ring.now.shape.kind ≡ 3 → ⊥ }
+    requires known { offset ≡ plan.offset (ring_held ring.now) }
+    ensures carries { plan.carries (ring_held ring.now) offset result.link ≡ 0 }
+    ensures place { PlaceOf (ring_held ring.now) result }
 {
-    let mut level = total;
-    let mut at = 15;
-    for i in 0..n {
-        let surplus = surpluses[i];
-        level = risen(level, surplus);
+    let mut at = HEAD;
+    for (link, level) in ring.levels().enumerate() {
         if level == offset {
-            return Place { link: i, at };
+            return Place { link, at };
         }
         at += 6 * ((level - offset) as usize);
     }
-    // never come to
-    Place { link: 0, at: 15 }
+    unreachable!()
 }
 
 // The link after one of n that carries so many items, and where its records begin.
@@ -134,7 +115,7 @@ fn place_after(here: Place, count: u32, n: usize) -> Place
     ensures { result ≡ place_after here count n }
 {
     if here.link + 1 == n {
-        return Place { link: 0, at: 15 };
+        return Place { link: 0, at: HEAD };
     }
     Place {
         link: here.link + 1,
@@ -142,41 +123,41 @@ fn place_after(here: Place, count: u32, n: usize) -> Place
     }
 }
 
-// The records of all links after the first 15 bytes. A one-way ring is gone round from a link that carries nothing, so that the link before has its
-// records when a link's sends wait for them.
-pub(crate) fn put_links(
-    buf: &mut [u8],
-    kind: u8,
-    n: usize,
-    loads: &[u16],
-    surpluses: &[i16],
-    costs: &[u16],
-    o: Outline,
-)
-    requires lent { Lent kind n loads.now surpluses.now costs.now × (o ≡ outline_of (ring_in kind n loads.now surpluses.now costs.now)) }
-    requires in_time { finish_of (ring_in kind n loads.now surpluses.now costs.now) (offset (ring_in kind n loads.now surpluses.now costs.now)) < 4294967296 }
-    requires fits { plan_length (ring_in kind n loads.now surpluses.now costs.now) ≤ length buf.old }
-    ensures { buf.new ≡ links_after (ring_in kind n loads.now surpluses.now costs.now) buf.old }
+// The links of a one-way ring, gone round from a link that carries nothing, so that the link before has its records when a link's sends wait for them.
+fn put_one_ways(buf: &mut [u8], ring: &AcceptedRing, offset: u32)
+    requires one_way { number_of ring.now.shape.kind ≡ 3 → ⊥ }
+    requires known { offset ≡ plan.offset (ring_held ring.now) }
+    requires fits { plan_length (ring_held ring.now) ≤ length buf.old }
+    ensures { buf.new ≡ links_after (ring_held ring.now) buf.old }
 {
-    if kind == 3 {
-        put_two_ways(buf, n, surpluses, costs, o);
-        return;
-    }
-    let mut here = idle_of(n, surpluses, o.total, o.offset);
+    let n = usize::from(ring.shape.n);
+    let mut here = idle_of(ring, offset);
     let mut count: u32 = 0;
+    // k counts the links that are come to: the must-fail edit link_left_out holds the range
     for k in 1..n {
         let from = here.at;
-        let link = here.link;
-        let cost = costs[link];
+        let cost = ring.costs[here.link];
         here = place_after(here, count, n);
-        let i = here.link;
-        let surplus = surpluses[i];
-        count = risen(count, surplus);
+        count = risen(count, ring.surpluses[here.link]);
         let feed = Feed {
             from,
-            load: loads[i] as usize,
+            load: usize::from(ring.loads[here.link]),
             cost,
         };
-        put_one_way(buf, here, count, costs[i], feed);
+        put_one_way(buf, here, count, ring.costs[here.link], feed);
+    }
+}
+
+// The records of all links after the head. What is known of the outline and the room stands in three functions: a struct of ring, outline and buffer
+// would be taken apart again where the buffer is read and written, and is no plainer.
+pub(crate) fn put_links(buf: &mut [u8], ring: &AcceptedRing, o: Outline)
+    requires known { o ≡ outline_of (ring_held ring.now) }
+    requires fits { plan_length (ring_held ring.now) ≤ length buf.old }
+    ensures { buf.new ≡ links_after (ring_held ring.now) buf.old }
+{
+    if ring.shape.kind == Kind::TwoWay {
+        put_two_ways(buf, ring, o);
+    } else {
+        put_one_ways(buf, ring, o.offset);
     }
 }

@@ -1,53 +1,89 @@
 -- `links::idle_of`: the walk comes to a link that carries nothing, and its records begin where those so far end. Assumes nothing.
-use Rattle.std.proofs.Common.{◌≡◌, suc, ◌+◌, ◌*◌, ◌-◌, ◌≤◌, ◌<◌, refl, ◌∙◌, add-one, inl, inr, rules, arith}
-use Rattle.ring.specs.Numbers.{sum, sum_ℤ}
+use Rattle.std.proofs.Common.{◌≡◌, ℕ, ◌*◌, ◌-◌, ◌≤◌, refl, sym, ◌∙◌, length, add-one, inl, inr, arith}
+use Rattle.std.proofs.lemmas.List.{length_push}
+use Rattle.ring.specs.Numbers.{sum}
+use Rattle.ring.specs.Boards.{most_load}
+use Rattle.ring.specs.Plan.{level, low, offset, carries, moves, ahead, behind}
 use Rattle.ring.proofs.Tests.{le_lt}
-use Rattle.planner.specs.Outline.{before, carries_by}
+use Rattle.ring.proofs.Level.{low_le, low_at}
+use Rattle.ring.proofs.Offset.{one_way, fits}
+use Rattle.ring.proofs.Bounds.{moves_most}
+use Rattle.planner.specs.Held.{ring_held}
 use Rattle.planner.proofs.Grow.{sum_within}
-use Rattle.planner.proofs.SumLevels.{may_rise, rises}
+use Rattle.planner.proofs.Walks.{Turn, numbered, numbered_turn, numbered_end}
 use Rattle.planner.proofs.links.idle_of.Goals as goal
-use Rattle.planner.proofs.links.idle_of.Goals.{After-risen-level}
+use Rattle.planner.proofs.links.idle_of.Goals.{In-Some}
 
-pub loop-i-init : goal.loop-i-init
-unfolding sum sum_ℤ
-loop-i-init c = record { level = omega arith; place = refl; none = λ j h e. omega arith }
+pub loop-link-init : goal.loop-link-init
+unfolding sum
+loop-link-init c = record { place = refl; none = λ j h e. omega arith }
 
-pub risen-level-requires : goal.risen-level-requires
-risen-level-requires c = may_rise c.requires.levels c.loop-i.i c.loop-i-test.true c.loop-i.invariant.level (search rules)
+-- where the walk is
+turn : (c : In-Some) → Turn (level (ring_held c.args.ring.now)) c.args.ring.now.shape.n (length c.loop-link.yielded) c.in-Some.link c.in-Some.level
+turn c =
+    let a = c.args.ring.now in
+    let g = level (ring_held a) in
+    numbered_turn g a.shape.n (numbered g a.shape.n c.levels.result c.into_iter-link-iterator.result c.levels.ensures (cc) (cc))
+    c.loop-link.yielded c.loop-link.link-iterator c.loop-link.yielded_by c.next.result c.next.new.self c.next.ensures.steps _ c.in-Some.is
 
--- the level of link i, which is not below the offset
-level_is : (c : After-risen-level) → c.risen-level.result ≡ before c.args.total c.args.surpluses.now (suc c.loop-i.i)
-level_is c = c.risen-level.ensures ∙ rises c.requires.levels c.loop-i.i c.loop-i-test.true c.loop-i.invariant.level (search rules)
+-- the offset is the least level
+least : (c : In-Some) → c.args.offset ≡ low (ring_held c.args.ring.now)
+least c = c.requires.known ∙ one_way (ring_held c.args.ring.now) c.requires.one_way
 
-above : (c : After-risen-level) → c.args.offset ≤ c.risen-level.result
-above c = omega (arith, level_is c, c.requires.above c.loop-i.i c.loop-i-test.true)
+above : (c : In-Some) → c.args.offset ≤ c.in-Some.level
+above c =
+    let a = c.args.ring.now in
+    let k = turn c in
+    omega (arith, least c, k.value_is, low_le (ring_held a) a.lent.accepted (length c.loop-link.yielded) k.below)
 
--- its records end within the plan
-room : (c : After-risen-level) → c.loop-i.at + 6 * (c.risen-level.result - c.args.offset) < 4294967296
-room c =
-    let a = c.args in
-    omega (arith, level_is c, above c, c.loop-i.invariant.place, c.requires.short, sum_within (carries_by a.total a.surpluses.now a.offset) c.loop-i.i a.n c.loop-i-test.true)
+-- what the link carries
+carried : (c : In-Some) → c.in-Some.level - c.args.offset ≡ carries (ring_held c.args.ring.now) c.args.offset (length c.loop-link.yielded)
+unfolding ahead behind
+carried c = omega (arith, above c, (turn c).value_is)
 
-pub returns-then-level-offset : goal.returns-then-level-offset
-returns-then-level-offset c = (
-  c.loop-i-test.true,
-  omega (arith, level_is (goal.at.returns-then-level-offset c).After-risen-level, c.if-level-offset.true),
-  c.loop-i.invariant.place,
-)
+pub returns-then-level-offset-clause-carries : goal.returns-then-level-offset-clause-carries
+returns-then-level-offset-clause-carries c =
+    let w = (goal.at.returns-then-level-offset-clause-carries c).In-Some in
+    rw (turn w).number_is (omega (arith, carried w, c.if-level-offset.true))
+
+pub returns-then-level-offset-clause-place : goal.returns-then-level-offset-clause-place
+returns-then-level-offset-clause-place c =
+    let k = turn (goal.at.returns-then-level-offset-clause-place c).In-Some in
+    record { link = omega (arith, k.number_is, k.below); at = rw (k.number_is, ← c.requires.known) c.loop-link.invariant.place }
 
 pub overflow_sub-at : goal.overflow_sub-at
-overflow_sub-at c = omega (arith, above (goal.at.overflow_sub-at c).After-risen-level)
+overflow_sub-at c = above (goal.at.overflow_sub-at c).In-Some
 
 pub overflow_add-at : goal.overflow_add-at
-overflow_add-at c = omega (arith, room (goal.at.overflow_add-at c).After-risen-level)
+unfolding moves
+overflow_add-at c =
+    let a = c.args.ring.now in
+    let r = ring_held a in
+    let w = (goal.at.overflow_add-at c).In-Some in
+    let within = sum_within (carries r c.args.offset) (length c.loop-link.yielded) a.shape.n (turn w).below in
+    let few : moves r c.args.offset ≤ 128 * (128 * most_load) = rw c.requires.known (moves_most r a.lent.accepted (offset r) (fits r a.lent.accepted)) in
+    record { fits = omega (arith, carried w, c.loop-link.invariant.place) }
 
-pub loop-i-preserved : goal.loop-i-preserved
+pub loop-link-preserved : goal.loop-link-preserved
 unfolding sum
-loop-i-preserved c =
-    let i = c.loop-i.i in
-    let v = (goal.at.loop-i-preserved c).After-risen-level in
-    record {
-      level = rw add-one (level_is v);
-      place = rw (add-one, sum) (omega (arith, level_is v, above v, c.loop-i.invariant.place));
-      none = λ j h e. elim (le_lt i j) [ inl p ↦ let q : j ≡ i = omega arith in c.if-level-offset.false (level_is v ∙ (rw q at e)) | inr p ↦ c.loop-i.invariant.none j p e ];
-    }
+loop-link-preserved c =
+    let w = (goal.at.loop-link-preserved c).In-Some in
+    let i : ℕ = length c.loop-link.yielded in
+    rw (length_push c.loop-link.yielded (c.in-Some.link, c.in-Some.level), add-one, sum)
+    (record {
+      place = omega (arith, carried w, c.loop-link.invariant.place);
+      none = λ j h e. elim (le_lt i j) [ inl p ↦ let q : j ≡ i = omega arith in c.if-level-offset.false ((turn w).value_is ∙ (rw q at e)) | inr p ↦ c.loop-link.invariant.none j p e ];
+    })
+
+pub unreachable-requires : goal.unreachable-requires
+unreachable-requires c =
+    let a = c.args.ring.now in
+    let r = ring_held a in
+    let g = level r in
+    let l = c.loop-link in
+    let n =
+    numbered_end g a.shape.n (numbered g a.shape.n c.levels.result c.into_iter-link-iterator.result c.levels.ensures (cc) (cc))
+    l.yielded l.link-iterator l.yielded_by c.next.result c.next.new.self c.next.ensures.steps c.in-None.is
+    in
+    let (i, h, e) = low_at r a.lent.accepted in
+    l.invariant.none i (omega (arith, n)) (e ∙ sym (c.requires.known ∙ one_way r c.requires.one_way))

@@ -9,5 +9,5 @@ abbrev pub invariant-loop-x : goal.invariant-loop-x
 invariant-loop-x l = record {
   free : l.free.0 ≡ free_at (arrives_in l.initial.buf l.feed) l.cost l.x;
   few : l.free.0 ≤ 4294967296 + 65536 * (l.x + 1);
-  sends : Begins l.initial.buf (take l.at l.initial.buf ++ link_bytes l.link 0 (start_fed (arrives_in l.initial.buf l.feed) l.cost) l.x) (l.at + 6 * l.x) l.buf;
+  sends : Begins l.initial.buf (take l.from l.initial.buf ++ link_bytes l.link 0 (start_fed (arrives_in l.initial.buf l.feed) l.cost) l.x) (l.from + 6 * l.x) l.buf;
 }

@@ -1,38 +1,33 @@
 -- `sums::outline_of`: the steps put together. Assumes nothing.
-use Rattle.std.proofs.Common.{◌*◌, ◌-◌, ◌≤◌, arith}
-use Rattle.ring.specs.Boards.{most_load}
-use Rattle.planner.proofs.SumOutline.{levels_of, spread_most, carried_most, whole}
+use Rattle.std.proofs.Common.{◌≡◌, ◌<◌, ◌*◌, ap, ◌∙◌, arith, refl, eqb, Bool, true, false, ℕ}
+use Rattle.ring.specs.Numbers.{pick}
+use Rattle.ring.specs.Lists.{each}
+use Rattle.ring.specs.Plan.{finish_of, rounds}
+use Rattle.ring.proofs.Level.{low_le, le_high}
+use Rattle.hop.specs.Kinds.{number_of}
+use Rattle.planner.specs.Held.{ring_held}
+use Rattle.planner.specs.Outline.{tally_of}
 use Rattle.planner.proofs.sums.outline_of.Goals as goal
-use Rattle.planner.proofs.sums.outline_of.Goals.{After-span_of-span}
 
-pub span_of-span-requires : goal.span_of-span-requires
-span_of-span-requires c = levels_of c.requires c.total-total.result c.total-total.ensures
+-- T that is 0 in the kinds that ask for none
+rounds_asked : (b : Bool) (turns cost other : ℕ) → pick b (pick b turns 0 * cost) other ≡ pick b (turns * cost) other
+rounds_asked true turns cost other = refl
+rounds_asked false turns cost other = refl
 
--- how far the levels spread
-spanned : (c : After-span_of-span) → (c.span_of-span.result.low ≤ c.span_of-span.result.high) × (c.span_of-span.result.high - c.span_of-span.result.low ≤ 128 * most_load)
-spanned c = spread_most c.requires c.total-total.result c.total-total.ensures c.span_of-span.result c.span_of-span.ensures
-
-pub offset-offset-requires : goal.offset-offset-requires
-offset-offset-requires c = (spanned c).0
-
-pub overflow_sub-span : goal.overflow_sub-span
-overflow_sub-span c = (spanned (goal.at.overflow_sub-span c).After-span_of-span).0
-
-pub rounds-rounds-requires : goal.rounds-rounds-requires
-rounds-rounds-requires c =
-    let levels = levels_of c.requires c.total-total.result c.total-total.ensures in
-    (omega (arith, c.requires.accepted.boards), levels, (spanned (goal.at.rounds-rounds-requires c).After-span_of-span).1)
-
-pub tally_of-tally-requires-clause-lengths : goal.tally_of-tally-requires-clause-lengths
-tally_of-tally-requires-clause-lengths c =
-    let boards = c.requires.accepted.boards in
-    (omega (arith, boards), omega (arith, boards), c.requires.costs_long, levels_of c.requires c.total-total.result c.total-total.ensures)
-
-pub tally_of-tally-requires-clause-items_few : goal.tally_of-tally-requires-clause-items_few
-tally_of-tally-requires-clause-items_few c =
-    carried_most c.requires c.total-total.result c.total-total.ensures c.span_of-span.result c.span_of-span.ensures c.offset-offset.result c.offset-offset.ensures
+pub overflow_sub-spread : goal.overflow_sub-spread
+overflow_sub-spread c =
+    let a = c.args.ring.now in
+    let r = ring_held a in
+    let ok = a.lent.accepted in
+    let some : 0 < a.shape.n = omega (arith, ok.boards) in
+    rw c.span_of-span.ensures (omega (arith, low_le r ok 0 some, le_high r ok 0 some))
 
 pub returns : goal.returns
+unfolding finish_of
 returns c =
-    whole c.requires c.total-total.result c.total-total.ensures c.span_of-span.result c.span_of-span.ensures c.offset-offset.result c.offset-offset.ensures
-    c.rounds-rounds.result c.rounds-rounds.ensures c.tally_of-tally.result c.tally_of-tally.ensures c.finish.result c.finish.ensures
+    let a = c.args.ring.now in
+    let r = ring_held a in
+    let o = c.offset-offset.ensures in
+    let t = c.tally_of-tally.ensures ∙ ap (tally_of r) o in
+    let finish = c.finish.ensures ∙ (λ k. pick (eqb (number_of a.shape.kind) 3) (c.rounds.ensures k * each a.costs.now 0) (t k).slowest.0) ∙ rounds_asked (eqb (number_of a.shape.kind) 3) (rounds r) (each a.costs.now 0) _ in
+    λ k. record { offset = o k; rounds = record { 0 = c.rounds.ensures k }; moves = (t k).moves; tight = (t k).tight; finish = record { 0 = finish k } }

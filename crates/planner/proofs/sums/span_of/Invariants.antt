@@ -1,11 +1,10 @@
--- `sums::span_of`: the level reached, and the least and the greatest of those passed.
-use Rattle.std.proofs.Common.{◌≡◌}
+-- `sums::span_of`: the least and the greatest of the levels passed, and of the total.
+use Rattle.std.proofs.Common.{◌≡◌, length}
 use Rattle.ring.specs.Numbers.{least, greatest}
-use Rattle.planner.specs.Outline.{before}
+use Rattle.planner.specs.Levels.{before}
 use Rattle.planner.proofs.sums.span_of.Given as goal
 
-abbrev pub invariant-loop-i : goal.invariant-loop-i
-invariant-loop-i l =
-    (l.level ≡ before l.total l.surpluses l.i)
-    × (l.low ≡ least (before l.total l.surpluses) l.i)
-    × (l.high ≡ greatest (before l.total l.surpluses) l.i)
+abbrev pub invariant-loop-level : goal.invariant-loop-level
+invariant-loop-level l =
+    (l.low ≡ least (before l.ring.total l.ring.surpluses.now) (length l.yielded))
+    × (l.high ≡ greatest (before l.ring.total l.ring.surpluses.now) (length l.yielded))

@@ -1,15 +1,14 @@
--- `sums::tally_of`: the level reached, and what the links passed carry.
-use Rattle.std.proofs.Common.{◌≡◌, ◌*◌, ◌≤◌}
+-- `sums::tally_of`: what the links passed carry, and how long they take for it.
+use Rattle.std.proofs.Common.{◌≡◌, length}
 use Rattle.ring.specs.Numbers.{sum}
-use Rattle.ring.specs.Boards.{most_load}
-use Rattle.planner.specs.Outline.{before, carries_by, time_by}
+use Rattle.ring.specs.Plan.{carries, link_time}
+use Rattle.planner.specs.Held.{ring_held}
 use Rattle.planner.proofs.SumWalk.{highest, summit}
 use Rattle.planner.proofs.sums.tally_of.Given as goal
 
-abbrev pub invariant-loop-i : goal.invariant-loop-i
-invariant-loop-i l =
-    (l.level ≡ before l.total l.surpluses l.i)
-    × (l.tally.moves.0 ≡ sum (carries_by l.total l.surpluses l.offset) l.i)
-    × (l.tally.moves.0 ≤ 128 * most_load * l.i)
-    × (l.tally.tight ≡ summit (time_by l.total l.surpluses l.offset l.costs) l.i)
-    × (l.tally.slowest.0 ≡ highest (time_by l.total l.surpluses l.offset l.costs) l.i)
+abbrev pub invariant-loop-link : goal.invariant-loop-link
+invariant-loop-link l = record {
+  moves : l.tally.moves.0 ≡ sum (carries (ring_held l.ring) l.offset) (length l.yielded);
+  tight : l.tally.tight ≡ summit (link_time (ring_held l.ring) l.offset) (length l.yielded);
+  slowest : l.tally.slowest.0 ≡ highest (link_time (ring_held l.ring) l.offset) (length l.yielded);
+}
