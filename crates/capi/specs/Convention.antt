@@ -8,7 +8,11 @@ abbrev pub code_of : Answer → ℕ
 code_of (success values) = 0
 code_of (refusal number board) = number + 256 * board
 
--- the three lent values afterwards: those that success returns, and zeros where they are fewer; a refusal leaves what was there
+-- three values, zeros where a list has fewer
+abbrev pub three_of : List ℕ → List ℕ
+three_of values = each values 0 ∷ each values 1 ∷ each values 2 ∷ []
+
+-- the three lent values afterwards: those that success returns; a refusal leaves what was there
 abbrev pub values_of : Answer → List ℕ → List ℕ
-values_of (success values) xs = each values 0 ∷ each values 1 ∷ each values 2 ∷ []
+values_of (success values) xs = three_of values
 values_of (refusal number board) xs = xs

@@ -2,68 +2,77 @@
 // include/fallowroe.h declares the five functions to C.
 #![tactic(auto)]
 
-ghost use Rattle.std.specs.Prelude.{◌≡◌, length, [], ◌∷◌};
-ghost use Rattle.hop.specs.Answers.{refusal, of_check, of_written};
+ghost use Rattle.std.specs.Prelude.{◌≡◌, List, [], ◌∷◌, ℕ, length};
+ghost use Rattle.hop.specs.Answers.{number_by, board_by, refusal, of_answer, of_check, of_written};
+ghost use Rattle.hop.specs.Kinds.{number_of};
 ghost use Rattle.hop.specs.Read.{check_of, job_of};
 ghost use Rattle.hop.specs.Write.{written_of, buffer_of};
 ghost use Rattle.planner.specs.Answer.{of_planned, plan_answer, plan_memory};
 ghost use Rattle.loads.specs.Query.{query_answer, query_plan, query_loads};
 ghost use Rattle.columns.specs.Call.{columns_answer, columns_plan, columns_list};
-ghost use Rattle.capi.specs.Convention.{code_of, values_of};
+ghost use Rattle.capi.specs.Convention.{code_of, three_of, values_of};
 
-use hop::{Check, Written};
+use hop::{Refusal, Shape};
 use planner::Planned;
 
-// Success: code 0, and the values in their lent places.
-fn succeed(a: u64, b: u64, c: u64, values: &mut [u64; 3]) -> u64
-    ensures value { result ≡ 0 }
-    ensures values_after { values.new ≡ a ∷ b ∷ c ∷ [] }
-{
-    *values = [a, b, c];
-    0
+// What a success tells in the three lent values.
+trait Values {
+    ghost values: { Self → List ℕ };
+
+    // Zeros stand where it tells fewer.
+    fn values(self) -> [u64; 3]
+        ensures { result ≡ three_of (values self) };
+}
+
+// The kind and n.
+impl Values for Shape {
+    ghost values = { λ shape. number_of shape.kind ∷ shape.n ∷ [] };
+
+    fn values(self) -> [u64; 3] {
+        [u64::from(self.kind.number()), u64::from(self.n), 0]
+    }
+}
+
+// The length written.
+impl Values for usize {
+    ghost values = { λ length. length ∷ [] };
+
+    fn values(self) -> [u64; 3] {
+        [self as u64, 0, 0]
+    }
+}
+
+// Finish, moves and tight link.
+impl Values for Planned {
+    ghost values = { λ planned. planned.finish ∷ planned.moves ∷ planned.tight ∷ [] };
+
+    fn values(self) -> [u64; 3] {
+        [
+            u64::from(self.finish),
+            u64::from(self.moves),
+            u64::from(self.tight),
+        ]
+    }
 }
 
 // The code of a refusal.
-fn refuse(number: u8, board: u8) -> u64
-    ensures { result ≡ code_of (refusal number board) }
+fn code(refused: Refusal) -> u64
+    ensures { result ≡ code_of (refusal (number_by refused) (board_by refused)) }
 {
-    (number as u64) + 256 * (board as u64)
+    u64::from(refused.number()) + 256 * u64::from(refused.board())
 }
 
-// Tells the kind and n, or the refusal.
-fn tell_check(answer: Check, values: &mut [u64; 3]) -> u64
-    ensures value { result ≡ code_of (of_check answer) }
-    ensures values_after { values.new ≡ values_of (of_check answer) values.old }
+// The code of an answer, with a success's values in their lent places; a refusal leaves those.
+fn tell<T: Values>(answer: Result<T, Refusal>, values: &mut [u64; 3]) -> u64
+    ensures value { result ≡ code_of (of_answer T.values answer) }
+    ensures values_after { values.new ≡ values_of (of_answer T.values answer) values.old }
 {
     match answer {
-        Check::Ring { kind, n } => succeed(kind as u64, n as u64, 0, values),
-        Check::Refused { number, board } => refuse(number, board),
-    }
-}
-
-// Tells the length written, or the refusal.
-fn tell_written(answer: Written, values: &mut [u64; 3]) -> u64
-    ensures value { result ≡ code_of (of_written answer) }
-    ensures values_after { values.new ≡ values_of (of_written answer) values.old }
-{
-    match answer {
-        Written::Bytes(length) => succeed(length as u64, 0, 0, values),
-        Written::Refused { number, board } => refuse(number, board),
-    }
-}
-
-// Tells finish, moves and tight link, or the refusal.
-fn tell_planned(answer: Planned, values: &mut [u64; 3]) -> u64
-    ensures value { result ≡ code_of (of_planned answer) }
-    ensures values_after { values.new ≡ values_of (of_planned answer) values.old }
-{
-    match answer {
-        Planned::Plan {
-            finish,
-            moves,
-            tight,
-        } => succeed(finish as u64, moves as u64, tight as u64, values),
-        Planned::Refused { number, board } => refuse(number, board),
+        Ok(success) => {
+            *values = success.values();
+            0
+        }
+        Err(refused) => code(refused),
     }
 }
 
@@ -73,7 +82,7 @@ pub extern "C" fn fallowroe_check(job: &[u8], values: &mut [u64; 3]) -> u64
     ensures value { result ≡ code_of (of_check (check_of job.now)) }
     ensures values_after { values.new ≡ values_of (of_check (check_of job.now)) values.old }
 {
-    tell_check(hop::checked(job), values)
+    tell(hop::checked(job), values)
 }
 
 // The job of a kind and three lists, written at the front of a buffer: its length.
@@ -90,7 +99,7 @@ pub extern "C" fn fallowroe_write(
     ensures job_after { job.new ≡ buffer_of kind loads.now surpluses.now costs.now job.old }
     ensures values_after { values.new ≡ values_of (of_written (written_of kind loads.now surpluses.now costs.now (length job.old))) values.old }
 {
-    tell_written(hop::write(kind, loads, surpluses, costs, job), values)
+    tell(hop::write(kind, loads, surpluses, costs, job), values)
 }
 
 // The plan of a job, at the front of a buffer: finish, moves and tight link.
@@ -100,7 +109,7 @@ pub extern "C" fn fallowroe_plan(job: &[u8], plan: &mut [u8], values: &mut [u64;
     ensures plan_after { plan.new ≡ plan_memory (job_of job.now) plan.old }
     ensures values_after { values.new ≡ values_of (of_planned (plan_answer (job_of job.now) (length plan.old))) values.old }
 {
-    tell_planned(planner::plan(job, plan), values)
+    tell(planner::plan(job, plan), values)
 }
 
 // The plan as above, and the load of each board at a tick in a list's first places.
@@ -117,7 +126,7 @@ pub extern "C" fn fallowroe_loads(
     ensures list_after { list.new ≡ query_loads (job_of job.now) tick (length plan.old) list.old }
     ensures values_after { values.new ≡ values_of (of_planned (query_answer (job_of job.now) (length plan.old) (length list.old))) values.old }
 {
-    tell_planned(loads::loads(job, tick, plan, list), values)
+    tell(loads::loads(job, tick, plan, list), values)
 }
 
 // The plan as above, and the columns that each board then has, board 0's first, in a list's first places.
@@ -133,5 +142,5 @@ pub extern "C" fn fallowroe_columns(
     ensures list_after { list.new ≡ columns_list (job_of job.now) (length plan.old) list.old }
     ensures values_after { values.new ≡ values_of (of_planned (columns_answer (job_of job.now) (length plan.old) (length list.old))) values.old }
 {
-    tell_planned(columns::columns(job, plan, list), values)
+    tell(columns::columns(job, plan, list), values)
 }

@@ -8,12 +8,13 @@ use Rattle.ring.specs.Plan.{offset}
 use Rattle.ring.specs.Columns.{N, stretch}
 use Rattle.ring.proofs.ColumnsCounts.{some}
 use Rattle.ring.proofs.Order1.{columns_are, begins_at_offset}
-use Rattle.hop.specs.declared.Check.{Check}
-use Rattle.hop.specs.declared.Check.TheVariants.{Ring, Refused as Unread}
+use Rattle.hop.specs.declared.Shape.{Shape}
+use Rattle.hop.specs.declared.refusals.Refusal.{Refusal}
+use Rattle.std.specs.Prelude.{Result, Ok, Err}
 use Rattle.hop.specs.declared.Job.{Job}
 use Rattle.hop.specs.Read.{job_of}
 use Rattle.hop.proofs.Accepted.{job_accepted}
-use Rattle.planner.specs.declared.Planned.TheVariants.{Plan}
+use Rattle.planner.specs.declared.Planned.{Planned}
 use Rattle.planner.specs.declared.Turn.{Turn}
 use Rattle.planner.specs.Answer.{ring_for, plan_answer}
 use Rattle.planner.specs.Turn.{turn_by, turn_of}
@@ -25,9 +26,9 @@ pub columns_run : (job : Job) {turn : Turn} → turn ≡ turn_of job → turn.co
 unfolding turn_of
 columns_run job e = ap (λ (t : Turn). t.columns) e ∙ by_check job.answer
   where
-    by_check : (c : Check) → (turn_by job c).columns ≡ columns_in job c
-    by_check (Ring kind n) = refl
-    by_check (Unread number board) = refl
+    by_check : (c : Result Shape Refusal) → (turn_by job c).columns ≡ columns_in job c
+    by_check (Ok shape) = refl
+    by_check (Err refusal) = refl
 
 -- board 0's first is one of them, and laid in a list from it on they are the played lists
 pub record Turned (job : Job) (turn : Turn) : Type 0 where
@@ -35,12 +36,12 @@ pub record Turned (job : Job) (turn : Turn) : Type 0 where
   pub laid : (ys : List ℕ) → stretch turn.columns turn.first turn.columns ++ drop turn.columns ys ≡ columns_by job job.answer ys
 
 module _ (s : List ℕ) where
-  turned_ring : (kind n : ℕ) → (job_of s).answer ≡ Ring kind n → Turned (job_of s) (turn_of (job_of s))
+  turned_ring : (shape : Shape) → (job_of s).answer ≡ Ok shape → Turned (job_of s) (turn_of (job_of s))
   unfolding turn_of
-  turned_ring kind n is =
-      let r = ring_for (job_of s) kind n in
-      let ok = job_accepted s kind n is in
+  turned_ring shape is =
+      let r = ring_for (job_of s) shape in
+      let ok = job_accepted s shape is in
       rw is (record { below = rw (begins_at_offset r ok) (mod-lt (offset r) (some r ok)); laid = λ ys. ap (λ (xs : List ℕ). xs ++ drop (N r) ys) (sym (columns_are r ok)) })
 
-  pub turned : (room : ℕ) {f m t : ℕ} → plan_answer (job_of s) room ≡ Plan f m t → {turn : Turn} → turn ≡ turn_of (job_of s) → Turned (job_of s) turn
-  turned room e is = let of = planned_of (job_of s) room e in rw is (turned_ring of.kind of.n of.read)
+  pub turned : (room : ℕ) {p : Planned} → plan_answer (job_of s) room ≡ Ok p → {turn : Turn} → turn ≡ turn_of (job_of s) → Turned (job_of s) turn
+  turned room e is = let of = planned_of (job_of s) room e in rw is (turned_ring of.shape of.read)

@@ -1,16 +1,12 @@
 -- Which refusal numbers a call that fills a list gives, and with which board. Assumes nothing.
-use mathlib.Core.Path.{refl}
-use mathlib.Core.List.{List}
+use Rattle.std.proofs.Common.{refl, List, ℕ, ltb, get_or, Result, Ok, Err}
 use mathlib.Core.Logic.{inl, inr}
-use Prim.Native.Nat.{ℕ}
-use lib.Dec.{ltb}
-use lib.ListN.{get_or}
 use Rattle.ring.specs.Boards.{Within}
+use Rattle.hop.specs.declared.refusals.Refusal.{Refusal}
 use Rattle.hop.specs.Answers.{Gives}
 use Rattle.hop.specs.Read.{job_of}
 use Rattle.hop.proofs.Given.{picked, no_board}
 use Rattle.planner.specs.declared.Planned.{Planned}
-use Rattle.planner.specs.declared.Planned.TheVariants.{Plan, Refused}
 use Rattle.planner.specs.Answer.{of_planned, PlannerGives, plan_answer}
 use Rattle.planner.proofs.Given.{planner_gives}
 use Rattle.lists.specs.Listed.{lacking, ListGives, list_answer}
@@ -22,13 +18,13 @@ module _ (own : ℕ) (other : Within 7 10 own → ⊥) (s : List ℕ) (needed ro
   list_gives =
       let p = plan_answer (job_of s) room in
       let g = planner_gives s room in
-      picked (λ (q : Planned). Gives (ListGives own) (get_or s 6 0) (of_planned q)) (ltb places needed) (short p g) (same p g)
+      picked (λ (q : Result Planned Refusal). Gives (ListGives own) (get_or s 6 0) (of_planned q)) (ltb places needed) (short p g) (same p g)
     where
       -- with too few places its own, or the planner's refusal
-      short : (p : Planned) → Gives PlannerGives (get_or s 6 0) (of_planned p) → Gives (ListGives own) (get_or s 6 0) (of_planned (lacking own p))
-      short (Plan finish moves tight) g = (inr refl, no_board _ own other)
-      short (Refused number board) g = (inl g.0, g.1)
+      short : (p : Result Planned Refusal) → Gives PlannerGives (get_or s 6 0) (of_planned p) → Gives (ListGives own) (get_or s 6 0) (of_planned (lacking own p))
+      short (Ok planned) g = (inr refl, no_board _ own other)
+      short (Err refusal) g = (inl g.0, g.1)
 
-      same : (p : Planned) → Gives PlannerGives (get_or s 6 0) (of_planned p) → Gives (ListGives own) (get_or s 6 0) (of_planned p)
-      same (Plan finish moves tight) g = tt
-      same (Refused number board) g = (inl g.0, g.1)
+      same : (p : Result Planned Refusal) → Gives PlannerGives (get_or s 6 0) (of_planned p) → Gives (ListGives own) (get_or s 6 0) (of_planned p)
+      same (Ok planned) g = tt
+      same (Err refusal) g = (inl g.0, g.1)

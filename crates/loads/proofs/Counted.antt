@@ -1,84 +1,88 @@
--- Counts of a list of sends, kept in the first n places of a list, one more send at a time. Assumes nothing.
+-- What each board has received and sent, of a list of sends: of none, and of one more. Assumes nothing.
 use mathlib.Core.Path.{◌≡◌, refl, sym, ap, ◌∙◌}
 use mathlib.Core.Bool.{Bool, true, false}
 use mathlib.Core.List.{List, [], ◌∷◌, ◌++◌}
 use Prim.Native.Nat.{ℕ, zero, suc, ◌+◌, ◌≤◌, ◌<◌}
-use native.Mathlib.Numerals.{add-one}
+use native.Mathlib.Nat.{add-zero}
 use native.Mathlib.Omega.{arith}
-use lib.Dec.{eqb}
-use lib.ListN.{length, get_or, set, length-append, replicate, get_or-replicate}
-use borrow.Author.Tests.{eq-eqb, ne_eqb}
-use Rattle.ring.specs.Numbers.{pick, both, one_if}
-use Rattle.ring.specs.Lists.{total, count, joined, up_to, fill}
-use Rattle.ring.specs.Boards.{next}
+use lib.Dec.{eqb, ltb, leb}
+use lib.ListN.{length, get_or, set, length-append, length-set, replicate, get_or-replicate}
+use lib.Seq.{get_or-set_same, get_or-set_other}
+use Rattle.std.specs.Int.{from_bool}
+use Rattle.std.proofs.lemmas.Bool.{cases_eq}
+use borrow.Author.Tests.{eqb-true, eqb-false}
+use Rattle.ring.specs.Numbers.{both, one_if}
+use Rattle.ring.specs.Lists.{total, count, joined, up_to}
+use Rattle.ring.specs.Boards.{Ring}
+use Rattle.ring.specs.Schedule.{Send, sender, receiver, ends}
 use Rattle.ring.proofs.Tests.{one_if_le}
-use Rattle.ring.proofs.Totals.{each_all, total_le, total_append, total_length}
-use Rattle.ring.proofs.Neighbours.{next_below}
-use Rattle.ring.proofs.Fill.{fill_at, fill_self, fill_set}
+use Rattle.ring.proofs.Totals.{each_all, total_le, total_length, count_more}
+use Rattle.loads.specs.declared.Count.{Count}
+use Rattle.loads.specs.Counts.{nothing, Counted}
 
-module _ {A : Type 0} where
-  -- no more pass a test than there are
-  pub count_most : (p : A → Bool) (σ : List A) → count p σ ≤ length σ
-  count_most p σ = omega (arith, total_length σ, total_le (λ s. one_if (p s)) (λ s. 1) σ (each_all (λ s. one_if_le (p s)) σ))
+-- no more pass a test than there are
+pub count_most : {A : Type 0} (p : A → Bool) (σ : List A) → count p σ ≤ length σ
+count_most p σ = omega (arith, total_length σ, total_le (λ s. one_if (p s)) (λ s. 1) σ (each_all (λ s. one_if_le (p s)) σ))
 
-  up_to_long : (s : ℕ → A) (k : ℕ) → length (up_to s k) ≡ k
-  unfolding joined
-  up_to_long s zero = refl
-  up_to_long s (suc k) = simp (length-append, up_to_long s k) (omega arith)
+pub up_to_long : {A : Type 0} (s : ℕ → A) (k : ℕ) → length (up_to s k) ≡ k
+unfolding joined
+up_to_long s zero = refl
+up_to_long s (suc k) = simp (length-append, up_to_long s k) (omega arith)
 
-  module _ (who : A → ℕ) (q : A → Bool) where
-    -- how many of a list that pass the test are board i's
-    abbrev pub of_board : List A → ℕ → ℕ
-    of_board σ i = count (λ s. both (eqb (who s) i) (q s)) σ
+from_bool_is : (b : Bool) → from_bool b ≡ one_if b
+from_bool_is true = refl
+from_bool_is false = refl
 
-    one_more : (σ : List A) (s : A) (i : ℕ) → of_board (σ ++ s ∷ []) i ≡ of_board σ i + one_if (both (eqb (who s) i) (q s))
-    unfolding total
-    one_more σ s i = omega (arith, total_append (λ s. one_if (both (eqb (who s) i) (q s))) σ (s ∷ []))
+-- so many more receipts, or so many more sends, of one board
+abbrev pub got : List Count → ℕ → ℕ → Count
+got counts to one = let c = get_or counts to nothing in record { received = c.received + one; sent = c.sent }
 
-    -- where a list holds the counts of the first k of elements that are given one by one, and element k is board `to`'s: the count
-    -- there is small, and with one more where the element passes it is that of the first k + 1
-    pub record Step (s : ℕ → A) (k n : ℕ) (xs now : List ℕ) (to : ℕ) : Type 0 where
-      pub room : get_or now to 0 ≤ k
-      pub next : (one : ℕ) → one ≡ one_if (q (s k)) → set now to (get_or now to 0 + one) ≡ fill (of_board (up_to s (k + 1))) n xs
+abbrev pub gave : List Count → ℕ → ℕ → Count
+gave counts from one = let c = get_or counts from nothing in record { received = c.received; sent = c.sent + one }
 
-    pub step : (s : ℕ → A) (k n : ℕ) (xs : List ℕ) {now : List ℕ} {to : ℕ} → now ≡ fill (of_board (up_to s k)) n xs → to ≡ who (s k) → to < n → n ≤ length xs → Step s k n xs now to
-    unfolding joined
-    step s k n xs {now} {to} is at h l =
-        let σ = up_to s k in
-        let here : get_or now to 0 ≡ of_board σ to = rw is (fill_at (of_board σ) xs 0 n to h l) in
-        record {
-          room = omega (arith, count_most (λ s. both (eqb (who s) to) (q s)) σ, up_to_long s k);
-          next = λ one e.
-              let own : get_or now to 0 + one ≡ of_board (σ ++ s k ∷ []) to =
-              omega (arith, one_more σ (s k) to, ap (λ (b : Bool). one_if (both b (q (s k)))) (eq-eqb (who (s k)) to (sym at))) in
-              (λ t. set (is t) to (own t))
-              ∙ fill_set (of_board σ) (of_board (σ ++ s k ∷ [])) to
-              (λ i ne. omega (arith, one_more σ (s k) i, ap (λ (b : Bool). one_if (both b (q (s k)))) (ne_eqb (who (s k)) i (λ z. ne (sym z ∙ sym at))))) n xs h
-              ∙ ap (λ (τ : List A). fill (of_board τ) n xs) (sym (rw (add-one k)));
-        }
+module _ (f : Count → ℕ) (counts : List Count) (at i : ℕ) (h : at < length counts) (v : Count) where
+  -- a new count for one board, which leaves a part of it as it is
+  kept : f v ≡ f (get_or counts at nothing) → f (get_or (set counts at v) i nothing) ≡ f (get_or counts i nothing)
+  kept e = grind (arith, get_or-set_same, get_or-set_other, cases_eq i at)
 
--- no board has a count of no sends
-pub none_counted : {A : Type 0} (who : A → ℕ) (q : A → Bool) (n m : ℕ) → n ≤ m → replicate m 0 ≡ fill (of_board who q []) n (replicate m 0)
+  -- or has one more there, where a test holds
+  more : (b : Bool) → f v ≡ f (get_or counts at nothing) + one_if b → f (get_or (set counts at v) i nothing) ≡ f (get_or counts i nothing) + one_if (both (eqb at i) b)
+  more b e = go (eqb at i) refl
+    where
+      go : (t : Bool) → eqb at i ≡ t → f (get_or (set counts at v) i nothing) ≡ f (get_or counts i nothing) + one_if (both t b)
+      go true q = let same : at ≡ i = eqb-true at i q in rw (← same) (ap f (get_or-set_same counts at v nothing h) ∙ e)
+      go false q = rw (add-zero) (ap f (get_or-set_other counts at i v nothing (λ z. eqb-false at i q (sym z))))
+
+-- nothing was counted of no sends
+pub none_counted : (r : Ring) (tick : ℕ) → r.n ≤ 128 → Counted r [] tick (replicate 128 nothing)
 unfolding total
-none_counted who q n m h = sym (fill_self (of_board who q []) n (replicate m 0) (λ i l. sym (get_or-replicate m i 0 0 (omega arith))))
+none_counted r tick few =
+    let at : (i : ℕ) → i < r.n → get_or (replicate 128 nothing) i nothing ≡ nothing = λ i h. get_or-replicate 128 i nothing nothing (omega arith) in
+    record { received = λ i h. ap (λ (c : Count). c.received) (at i h); sent = λ i h. ap (λ (c : Count). c.sent) (at i h) }
 
--- the two boards of a link, by the direction
-pub record Between (n link direction to from : ℕ) : Type 0 where
-  pub to_is : to ≡ pick (eqb direction 0) (next n link) link
-  pub to_in : to < n
-  pub from_is : from ≡ pick (eqb direction 0) link (next n link)
-  pub from_in : from < n
+-- one send more
+module _ {r : Ring} {σ : List Send} {tick : ℕ} {counts : List Count} (long : length counts ≡ 128) (few : r.n ≤ 128) (held : Counted r σ tick counts) where
+  -- no board has more receipts, and none more sends, than there are sends
+  pub got_room : {to one : ℕ} (b : Bool) → to < r.n → one ≡ from_bool b → (get_or counts to nothing).received + one ≤ length σ + 1
+  got_room {to} b h e = omega (arith, held.received to h, count_most (λ x. both (eqb (receiver r x) to) (leb (ends r x) tick)) σ, e, from_bool_is b, one_if_le b)
 
-pub between : (n link direction ahead to from : ℕ) → link < n → ahead ≡ next n link → to ≡ pick (eqb direction 0) ahead link → from ≡ pick (eqb direction 0) link ahead → Between n link direction to from
-between n link direction ahead to from h a t f =
-    let l : ahead < n = rw a (next_below n link h) in
-    record {
-      to_is = t ∙ ap (λ (x : ℕ). pick (eqb direction 0) x link) a;
-      to_in = rw t (one_of (eqb direction 0) l h);
-      from_is = f ∙ ap (λ (x : ℕ). pick (eqb direction 0) link x) a;
-      from_in = rw f (one_of (eqb direction 0) h l);
-    }
-  where
-    one_of : (b : Bool) {x y : ℕ} → x < n → y < n → pick b x y < n
-    one_of true p q = p
-    one_of false p q = q
+  pub gave_room : (one : ℕ) {to from two : ℕ} (b : Bool) → to < r.n → from < r.n → two ≡ from_bool b → (get_or (set counts to (got counts to one)) from nothing).sent + two ≤ length σ + 1
+  gave_room one {to} {from} b t h e =
+      omega (arith, kept (λ (c : Count). c.sent) counts to from (omega arith) (got counts to one) refl, held.sent from h, count_most (λ x. both (eqb (sender r x) from) (ltb x.start tick)) σ, e, from_bool_is b, one_if_le b)
+
+  pub one_counted : (s : Send) {to from one two : ℕ} → to ≡ receiver r s → from ≡ sender r s → to < r.n → from < r.n → one ≡ from_bool (leb (ends r s) tick) → two ≡ from_bool (ltb s.start tick)
+      → let mid = set counts to (got counts to one) in Counted r (σ ++ s ∷ []) tick (set mid from (gave mid from two))
+  one_counted s {to} {from} {one} {two} t f ht hf e g =
+      let mid = set counts to (got counts to one) in
+      let to_in : to < length counts = omega arith in
+      let from_in : from < length mid = omega (arith, length-set counts to (got counts to one)) in
+      record {
+        received = λ i h.
+            kept (λ (c : Count). c.received) mid from i from_in (gave mid from two) refl
+            ∙ (more (λ (c : Count). c.received) counts to i to_in (got counts to one) _ (ap (λ (x : ℕ). (get_or counts to nothing).received + x) (e ∙ from_bool_is _))
+            ∙ ((λ j. held.received i h j + one_if (both (eqb (t j) i) (leb (ends r s) tick))) ∙ sym (count_more (λ x. both (eqb (receiver r x) i) (leb (ends r x) tick)) σ s)));
+        sent = λ i h.
+            more (λ (c : Count). c.sent) mid from i from_in (gave mid from two) _ (ap (λ (x : ℕ). (get_or mid from nothing).sent + x) (g ∙ from_bool_is _))
+            ∙ ((λ j. (kept (λ (c : Count). c.sent) counts to i to_in (got counts to one) refl ∙ held.sent i h) j + one_if (both (eqb (f j) i) (ltb s.start tick)))
+            ∙ sym (count_more (λ x. both (eqb (sender r x) i) (ltb x.start tick)) σ s));
+      }

@@ -1,6 +1,6 @@
--- `columns::lay` meets its contract: two rises, the second in the part that the first has left. Assumes nothing.
-use Rattle.columns.proofs.Rising.{both_rise}
+-- `columns::lay` meets its contract: the two parts, each of rising columns, and then what was there. Assumes nothing.
+use Rattle.columns.proofs.Rising.{laid}
 use Rattle.columns.proofs.lay.Goals as goal
 
 pub returns : goal.returns
-returns c = let a = c.args in both_rise a.first a.total c.requires.0 a.list.now c.rise.new.part c.requires.1 c.rise.ensures c.rise-2.new.part c.rise-2.ensures
+returns c = let cut = c.split_at_mut-up.ensures in laid c.args.first c.args.total c.requires.0 c.args.list.now _ c.requires.1 cut.back cut.front_len c.rise.ensures c.rise-2.ensures

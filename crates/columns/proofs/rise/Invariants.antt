@@ -1,11 +1,7 @@
--- `columns::rise`: the part begins with the first p columns.
-use Rattle.std.proofs.Common.{◌≡◌, ◌+◌}
-use Rattle.hop.proofs.Grow.{Begins}
-use Rattle.columns.proofs.Rising.{rising}
+-- `columns::rise`: the first x places hold the rising columns.
+use Rattle.std.proofs.Common.{◌≡◌, ◌+◌, take}
+use Rattle.ring.specs.Lists.{up_to}
 use Rattle.columns.proofs.rise.Given as goal
 
-abbrev pub invariant-loop-p : goal.invariant-loop-p
-invariant-loop-p l = record {
-  column : l.column ≡ l.first + l.p;
-  begins : Begins l.initial.part (rising l.first l.p) l.p l.part;
-}
+abbrev pub invariant-loop-x : goal.invariant-loop-x
+invariant-loop-x l = take l.x l.part ≡ up_to (λ x. l.first + x) l.x
