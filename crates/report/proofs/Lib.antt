@@ -1,4 +1,4 @@
-pub mod Grow
+pub mod Writing
 pub mod Decimal
 pub mod Texts
 pub mod Printed

@@ -4,12 +4,14 @@ use mathlib.Core.List.{List}
 use mathlib.Core.Logic.{inl, inr}
 use Prim.Native.Nat.{ℕ, ◌≤◌, ◌<◌, min}
 use native.Mathlib.Omega.{arith}
-use lib.ListN.{length, take, drop, length-take, take-append-drop}
-use lib.Seq.{length-take-le, take-append_seam, take-take}
+use lib.ListN.{length, take}
+use lib.Seq.{length-take-le, take-take}
+use Rattle.std.proofs.lemmas.List.{take_min}
 use Rattle.ring.specs.Boards.{Within}
-use Rattle.hop.specs.declared.Check.{Check}
-use Rattle.hop.specs.declared.Check.TheVariants.{Ring, Refused}
-use Rattle.hop.specs.Answers.{Gives, of_check}
+use Rattle.std.proofs.Common.{Result, Ok, Err}
+use Rattle.hop.specs.declared.Shape.{Shape}
+use Rattle.hop.specs.declared.refusals.Refusal.{Refusal}
+use Rattle.hop.specs.Answers.{Gives, number_by, board_by, of_check}
 use Rattle.hop.specs.Read.{job_length, head_of, check_of, job_of}
 use Rattle.hop.proofs.First.{stands}
 use Rattle.hop.proofs.Accepted.{job_answer}
@@ -33,26 +35,23 @@ pub printed_first : (s : List ℕ) → printed s ≡ printed (take 776 s)
 unfolding printed
 printed_first s = ap (λ (t : List ℕ). report_of (job_of t) plan_room) (sym (take-take 776 776 s (omega arith)))
 
--- the first k, or all where there are fewer
-take_least : (k : ℕ) (s : List ℕ) → take (min k (length s)) s ≡ take k s
-take_least k s = (λ i. take (sym (length-take k s) i) (sym (take-append-drop k s) i)) ∙ take-append_seam (take k s) (drop k s)
-
 -- what is planned of them into so much room is what is printed
 pub prints : (s : List ℕ) (k room : ℕ) → k ≡ min input_limit (length s) → room ≡ plan_room → report_of (job_of (take k s)) room ≡ printed s
 unfolding printed
-prints s k room e q = (λ i. report_of (job_of (take (e i) s)) (q i)) ∙ ap (λ (t : List ℕ). report_of (job_of t) plan_room) (take_least input_limit s)
+prints s k room e q = (λ i. report_of (job_of (take (e i) s)) (q i)) ∙ ap (λ (t : List ℕ). report_of (job_of t) plan_room) (take_min input_limit s)
 
 -- more bytes than the longest job has make no ring
-too_long : (s : List ℕ) → job_length 128 < length s → (number : ℕ) × Within 2 6 number × (check_of s ≡ Refused number 0)
+too_long : (s : List ℕ) → job_length 128 < length s → (r : Refusal) × Within 2 6 (number_by r) × (board_by r ≡ 0) × (check_of s ≡ Err r)
 unfolding check_of
 too_long s h = go (head_of s) refl (head_gives s)
   where
-    go : (c : Check) → head_of s ≡ c → Gives (Early s) 0 (of_check c) → (number : ℕ) × Within 2 6 number × (check_of s ≡ Refused number 0)
-    go (Ring k n) e g = let f = headed s k n e in absurd (omega arith)
-    go (Refused number board) e g = (
-      number,
+    go : (c : Result Shape Refusal) → head_of s ≡ c → Gives (Early s) 0 (of_check c) → (r : Refusal) × Within 2 6 (number_by r) × (board_by r ≡ 0) × (check_of s ≡ Err r)
+    go (Ok ring) e g = let f = headed s ring e in absurd (omega arith)
+    go (Err r) e g = (
+      r,
       elim g.0 [ inl p ↦ absurd (omega arith) | inr p ↦ p ],
-      sym (stands (head_of s) (head_of s) _ number board refl e) ∙ e ∙ ap (Refused number) (early_board s number board g),
+      early_board s (number_by r) (board_by r) g,
+      sym (stands (head_of s) (head_of s) _ r refl e),
     )
 
 -- an input longer than the longest job is refused whatever it holds: by 2 to 6, so for its mark, version, kind, n or length
@@ -61,5 +60,5 @@ unfolding printed
 longer_refused s h =
     let cut = take input_limit s in
     let long : length cut ≡ input_limit = length-take-le input_limit s (omega arith) in
-    let (number, among, e) = too_long cut (omega arith) in
-    (number, among, sym (text_unread (job_of cut) plan_room number 0 (job_answer cut ∙ e)))
+    let (r, among, none, e) = too_long cut (omega arith) in
+    (number_by r, among, sym (text_unread (job_of cut) plan_room r (job_answer cut ∙ e)) ∙ ap (refusal_line (number_by r)) none)

@@ -1,26 +1,30 @@
 -- Document 01, "The program": the text of the planner's answer to a job, and what is printed of an input.
-use Rattle.std.specs.Prelude.{List, ◌++◌, ℕ, ◌+◌, take}
+use Rattle.std.specs.Prelude.{List, ◌++◌, ℕ, ◌+◌, take, Result, Ok, Err}
 use Rattle.ring.specs.Boards.{Ring, most_boards}
 use Rattle.ring.specs.Schedule.{sender, receiver}
-use Rattle.hop.specs.declared.Check.{Check}
-use Rattle.hop.specs.declared.Check.TheVariants.{Ring as Read, Refused as Unread}
+use Rattle.hop.specs.declared.Shape.{Shape}
 use Rattle.hop.specs.declared.Job.{Job}
+use Rattle.hop.specs.declared.refusals.Refusal.{Refusal}
+use Rattle.hop.specs.Answers.{number_by, board_by}
 use Rattle.hop.specs.Read.{job_length, job_of}
 use Rattle.planner.specs.declared.Planned.{Planned}
-use Rattle.planner.specs.declared.Planned.TheVariants.{Plan, Refused}
 use Rattle.planner.specs.Answer.{ring_for, plan_answer}
 use Rattle.planner.specs.Traffic.{sends_by}
 use Rattle.report.specs.Text.{first_line, board_lines, refusal_line}
 
+-- a refusal's line
+abbrev pub refused_text : Refusal → List ℕ
+refused_text refusal = refusal_line (number_by refusal) (board_by refusal)
+
 -- a ring's plan: its first line, and a line for each board
-abbrev pub plan_text : Ring → ℕ → ℕ → ℕ → List ℕ
-plan_text r finish moves tight = first_line finish moves tight ++ board_lines (sends_by r (sender r)) (sends_by r (receiver r)) r.n
+abbrev pub plan_text : Ring → Planned → List ℕ
+plan_text r planned = first_line planned.finish planned.moves planned.tight ++ board_lines (sends_by r (sender r)) (sends_by r (receiver r)) r.n
 
 -- of a refused job the refusal; of a ring the refusal of its plan, or the plan
-abbrev pub text_by : Job → Check → Planned → List ℕ
-text_by job (Unread number board) answer = refusal_line number board
-text_by job (Read kind n) (Refused number board) = refusal_line number board
-text_by job (Read kind n) (Plan finish moves tight) = plan_text (ring_for job kind n) finish moves tight
+abbrev pub text_by : Job → Result Shape Refusal → Result Planned Refusal → List ℕ
+text_by job (Err refusal) answer = refused_text refusal
+text_by job (Ok shape) (Err refusal) = refused_text refusal
+text_by job (Ok shape) (Ok planned) = plan_text (ring_for job shape) planned
 
 -- what is printed of a job that is planned into so many bytes of room
 unfoldable pub report_of : Job → ℕ → List ℕ

@@ -1,7 +1,7 @@
 // What the program prints of a job, as bytes in a lent buffer.
 #![tactic(auto)]
 
-ghost use Rattle.std.specs.Prelude.{◌≡◌, min, length};
+ghost use Rattle.std.specs.Prelude.{◌≡◌, length};
 ghost use Rattle.hop.specs.Read.{job_of};
 ghost use Rattle.planner.specs.Answer.{plan_memory};
 ghost use Rattle.report.specs.Text.{over};
@@ -9,8 +9,7 @@ ghost use Rattle.report.specs.Report.{report_of, printed};
 
 mod text;
 
-use hop::Check;
-use planner::Planned;
+use text::Text;
 
 // The most bytes of an input that are read: one byte more than the longest job, so that a longer input is refused.
 pub const INPUT_LIMIT: usize = 776;
@@ -28,31 +27,19 @@ pub fn report(s: &[u8], plan: &mut [u8], text: &mut [u8; TEXT_ROOM]) -> usize
     ensures text_after { text.new ≡ over (report_of (job_of s.now) (length plan.old)) text.old }
 {
     let planned = planner::plan(s, plan);
-    let job = hop::read(s);
-    let answer = job.answer;
-    match answer {
-        Check::Refused { number, board } => text::put_refusal(text, number, board),
-        Check::Ring { kind: _, n } => match planned {
-            Planned::Refused { number, board } => text::put_refusal(text, number, board),
-            Planned::Plan {
-                finish,
-                moves,
-                tight,
-            } => {
-                let traffic = planner::traffic_of(s);
-                let sends = traffic.sends;
-                let receives = traffic.receives;
-                text::put_lines(text, finish, moves, tight, n, &sends, &receives)
-            }
-        },
+    let mut out = Text {
+        buffer: text,
+        length: 0,
+    };
+    match (hop::read(s).answer, planned) {
+        (Ok(shape), Ok(planned)) => {
+            out.first(planned);
+            out.boards(shape.n, &planner::traffic_of(s));
+        }
+        (Err(refusal), _) => out.refusal(refusal),
+        (_, Err(refusal)) => out.refusal(refusal),
     }
-}
-
-// The lesser of two numbers.
-fn least(a: usize, b: usize) -> usize
-    ensures { result ≡ min a b }
-{
-    if a < b { a } else { b }
+    out.length
 }
 
 // Writes what the program prints of an input at the front of `text`, and answers its length. A longer input than the limit is cut to the
@@ -62,6 +49,6 @@ pub fn printout(input: &[u8], text: &mut [u8; TEXT_ROOM]) -> usize
     ensures text_after { text.new ≡ over (printed input.now) text.old }
 {
     let mut plan = [0u8; PLAN_ROOM];
-    let length = least(INPUT_LIMIT, input.len());
+    let length = input.len().min(INPUT_LIMIT);
     report(&input[..length], &mut plan, text)
 }

@@ -1,156 +1,100 @@
-// The program's lines. Each function writes at the front of the part that it is lent, and answers how many bytes it wrote.
-ghost use Rattle.std.specs.Prelude.{◌≡◌, ◌++◌, ◌+◌, ◌*◌, ◌≤◌, length};
+// The program's lines, written one after another at the front of a lent buffer.
+ghost use Rattle.std.specs.Prelude.{◌++◌, ◌+◌, ◌*◌, ◌≤◌, length};
 ghost use Rattle.ring.specs.Lists.{each};
-ghost use Rattle.report.specs.Text.{over, ascii, decimal, field, first_line, board_line, board_lines, refusal_line};
+ghost use Rattle.report.specs.Text.{ascii, decimal, first_line, board_line, board_lines};
+ghost use Rattle.report.specs.Report.{refused_text};
+ghost use Rattle.report.specs.Writing.{Writes, Fits, fields_text};
 
-// A word at the front of a part: its length.
-fn put_word(part: &mut [u8], word: &[u8]) -> usize
-    requires { length word.now ≤ length part.old }
-    ensures value { result ≡ length word.now }
-    ensures part_after { part.new ≡ over word.now part.old }
-{
-    let n = word.len();
-    for i in 0..n {
-        part[i] = word[i];
+use hop::Refusal;
+use planner::{Planned, Traffic};
+
+// A text, as far as it is written: the first bytes of its buffer. It writes its own words and numbers, since std promises of no `write!` that it
+// succeeds where there is room.
+// A buffer and a length, since memory is fixed and no heap is used: the text stands in a lent array.
+#[derive(Drop)]
+pub(crate) struct Text<'a> {
+    pub(crate) buffer: &'a mut [u8],
+    pub(crate) length: usize,
+}
+
+impl Text<'_> {
+    // Some bytes more.
+    fn write(&mut self, bytes: &[u8])
+        requires { Fits bytes.now self.old }
+        ensures { Writes bytes.now self.old self.new }
+    {
+        let end = self.length + bytes.len();
+        self.buffer[self.length..end].copy_from_slice(bytes);
+        self.length = end;
     }
-    n
-}
 
-// A number in decimal at the front of a part: how many digits it has.
-fn put_decimal(part: &mut [u8], n: u32) -> usize
-    requires { 10 ≤ length part.old }
-    ensures value { result ≡ length (decimal n) }
-    ensures part_after { part.new ≡ over (decimal n) part.old }
-{
-    let digit = (48 + n % 10) as u8;
-    if n < 10 {
-        part[0] = digit;
-        return 1;
+    // A number in decimal.
+    fn number(&mut self, n: u32)
+        requires { Fits (decimal n) self.old }
+        ensures { Writes (decimal n) self.old self.new }
+    {
+        if n >= 10 {
+            self.number(n / 10);
+        }
+        self.write(&[b'0' + (n % 10) as u8]);
     }
-    let at = put_decimal(part, n / 10);
-    part[at] = digit;
-    at + 1
-}
 
-// A word, and a number after it.
-fn put_field(part: &mut [u8], word: &[u8], n: u32) -> usize
-    requires { (length word.now ≤ 10) × (20 ≤ length part.old) }
-    ensures upper_bound { result ≤ 20 }
-    ensures value { result ≡ length (field word.now n) }
-    ensures part_after { part.new ≡ over (field word.now n) part.old }
-{
-    let at = put_word(part, word);
-    at + put_decimal(&mut part[at..], n)
-}
-
-// Two words, each with a number after it.
-fn put_two(part: &mut [u8], first: &[u8], a: u32, second: &[u8], b: u32) -> usize
-    requires { (length first.now ≤ 10) × (length second.now ≤ 10) × (40 ≤ length part.old) }
-    ensures upper_bound { result ≤ 40 }
-    ensures value { result ≡ length (field first.now a ++ field second.now b) }
-    ensures part_after { part.new ≡ over (field first.now a ++ field second.now b) part.old }
-{
-    let at = put_field(part, first, a);
-    at + put_field(&mut part[at..], second, b)
-}
-
-// A line of three words, each with a number after it.
-fn put_three(
-    part: &mut [u8],
-    first: &[u8],
-    a: u32,
-    second: &[u8],
-    b: u32,
-    third: &[u8],
-    c: u32,
-) -> usize
-    requires { (length first.now ≤ 10) × (length second.now ≤ 10) × (length third.now ≤ 10) × (61 ≤ length part.old) }
-    ensures upper_bound { result ≤ 61 }
-    ensures value { result ≡ length (field first.now a ++ field second.now b ++ field third.now c ++ ascii "\n") }
-    ensures part_after { part.new ≡ over (field first.now a ++ field second.now b ++ field third.now c ++ ascii "\n") part.old }
-{
-    let at = put_two(part, first, a, second, b);
-    let end = at + put_field(&mut part[at..], third, c);
-    part[end] = b'\n';
-    end + 1
-}
-
-// The line of a refusal.
-pub(crate) fn put_refusal(part: &mut [u8], number: u8, board: u8) -> usize
-    requires { 41 ≤ length part.old }
-    ensures value { result ≡ length (refusal_line number board) }
-    ensures part_after { part.new ≡ over (refusal_line number board) part.old }
-{
-    let at = put_two(part, b"refused ", number as u32, b" board ", board as u32);
-    part[at] = b'\n';
-    at + 1
-}
-
-// The first line of an answer.
-fn put_first(part: &mut [u8], finish: u32, moves: u32, tight: u8) -> usize
-    requires { 61 ≤ length part.old }
-    ensures upper_bound { result ≤ 61 }
-    ensures value { result ≡ length (first_line finish moves tight) }
-    ensures part_after { part.new ≡ over (first_line finish moves tight) part.old }
-{
-    put_three(
-        part,
-        b"finish ",
-        finish,
-        b" moves ",
-        moves,
-        b" tight ",
-        tight as u32,
-    )
-}
-
-// The line of a board.
-fn put_board(part: &mut [u8], board: u8, sends: u32, receives: u32) -> usize
-    requires { 61 ≤ length part.old }
-    ensures upper_bound { result ≤ 61 }
-    ensures value { result ≡ length (board_line board sends receives) }
-    ensures part_after { part.new ≡ over (board_line board sends receives) part.old }
-{
-    put_three(
-        part,
-        b"board ",
-        board as u32,
-        b" sends ",
-        sends,
-        b" receives ",
-        receives,
-    )
-}
-
-// The lines of the boards, by what each sends and receives.
-fn put_boards(part: &mut [u8], n: u8, sends: &[u32], receives: &[u32]) -> usize
-    requires { (n ≤ length sends.now) × (n ≤ length receives.now) × (61 * n ≤ length part.old) }
-    ensures upper_bound { result ≤ 61 * n }
-    ensures value { result ≡ length (board_lines (each sends.now) (each receives.now) n) }
-    ensures part_after { part.new ≡ over (board_lines (each sends.now) (each receives.now) n) part.old }
-{
-    let boards = n as usize;
-    let mut at = 0;
-    for b in 0..boards {
-        at += put_board(&mut part[at..], b as u8, sends[b], receives[b]);
+    // Words, each with the number after it, and the line's end.
+    fn line(&mut self, fields: &[(&str, u32)])
+        requires { Fits (fields_text fields.now ++ ascii "\n") self.old }
+        ensures { Writes (fields_text fields.now ++ ascii "\n") self.old self.new }
+    {
+        for (word, n) in fields {
+            self.write(word.as_bytes());
+            self.number(*n);
+        }
+        self.write(b"\n");
     }
-    at
-}
 
-// The first line, and the lines of the boards.
-pub(crate) fn put_lines(
-    part: &mut [u8],
-    finish: u32,
-    moves: u32,
-    tight: u8,
-    n: u8,
-    sends: &[u32],
-    receives: &[u32],
-) -> usize
-    requires { (n ≤ length sends.now) × (n ≤ length receives.now) × (61 + 61 * n ≤ length part.old) }
-    ensures value { result ≡ length (first_line finish moves tight ++ board_lines (each sends.now) (each receives.now) n) }
-    ensures part_after { part.new ≡ over (first_line finish moves tight ++ board_lines (each sends.now) (each receives.now) n) part.old }
-{
-    let at = put_first(part, finish, moves, tight);
-    at + put_boards(&mut part[at..], n, sends, receives)
+    // The line of a refusal.
+    pub(crate) fn refusal(&mut self, refusal: Refusal)
+        requires { Fits (refused_text refusal) self.old }
+        ensures { Writes (refused_text refusal) self.old self.new }
+    {
+        self.line(&[
+            ("refused ", refusal.number().into()),
+            (" board ", refusal.board().into()),
+        ]);
+    }
+
+    // The first line of an answer.
+    pub(crate) fn first(&mut self, planned: Planned)
+        requires { Fits (first_line planned.finish planned.moves planned.tight) self.old }
+        ensures { Writes (first_line planned.finish planned.moves planned.tight) self.old self.new }
+    {
+        self.line(&[
+            ("finish ", planned.finish),
+            (" moves ", planned.moves),
+            (" tight ", planned.tight.into()),
+        ]);
+    }
+
+    // The line of a board.
+    fn board(&mut self, board: u8, sends: u32, receives: u32)
+        requires { Fits (board_line board sends receives) self.old }
+        ensures { Writes (board_line board sends receives) self.old self.new }
+    {
+        self.line(&[
+            ("board ", board.into()),
+            (" sends ", sends),
+            (" receives ", receives),
+        ]);
+    }
+
+    // The lines of boards 0 .. n - 1, by what each sends and receives.
+    pub(crate) fn boards(&mut self, n: u8, traffic: &Traffic)
+        requires boards { n ≤ 128 }
+        requires fits { self.old.length + 61 * n ≤ length self.old.buffer.now }
+        ensures { Writes (board_lines (each traffic.now.sends) (each traffic.now.receives) n) self.old self.new }
+    {
+        let sends = &traffic.sends[..usize::from(n)];
+        for (board, (sends, receives)) in sends.iter().zip(&traffic.receives).enumerate() {
+            self.board(board as u8, *sends, *receives);
+        }
+    }
 }
