@@ -1,6 +1,0 @@
--- `edges::kept`: no more are counted than were looked at.
-use Rattle.std.proofs.Common.{◌≤◌}
-use Rattle.edges.proofs.kept.Given as goal
-
-abbrev pub invariant-loop-i : goal.invariant-loop-i
-invariant-loop-i l = l.count ≤ l.i
