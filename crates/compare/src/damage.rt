@@ -1,143 +1,148 @@
 // A ring's bytes as a job, written as document 01 has them, and such bytes damaged.
-ghost use Rattle.std.specs.Prelude.{◌<◌, ◌≤◌};
+ghost use Rattle.std.specs.Prelude.{◌≤◌};
+ghost use Rattle.compare.specs.declared.damage.TheConstants.{ROOM};
 
-use crate::rings::{Drawn, draw, draw_place};
-use std::num::{wrapping_add_u16, wrapping_sub_u16};
+use crate::job::{Board, Job};
+use crate::rings::Draws;
 
-// Bytes, and how many of them are the job's.
+// How many bytes there is room for: a job of 128 boards has 775.
+const ROOM: usize = 800;
+
+// The bytes of a job: an array beside their number, since the program has fixed memory.
 #[derive(Clone, Copy)]
 pub(crate) struct Bytes {
-    pub(crate) bytes: [u8; 800],
-    pub(crate) length: usize,
+    bytes: [u8; ROOM],
+    length: usize,
+    ghost within: { length ≤ ROOM },
 }
 
-fn put_half(bytes: &mut [u8; 800], at: usize, half: u16)
-    requires { at < 799 }
-{
-    bytes[at] = (half / 256) as u8;
-    bytes[at + 1] = (half % 256) as u8;
+// A way to damage a job.
+#[derive(Clone, Copy, Debug, PartialEq, Eq)]
+pub(crate) enum Way {
+    // none
+    Whole,
+    // a byte changed
+    Byte,
+    // cut
+    Cut,
+    // up to 8 bytes after it
+    Longer,
+    // a byte of its head changed
+    Head,
+    // a number of a board changed
+    Board,
 }
 
-fn put_board(bytes: &mut [u8; 800], i: usize, load: u16, after: u16, cost: u16)
-    requires { i < 128 }
-{
-    let at = 7 + 6 * i;
-    put_half(bytes, at, load);
-    put_half(bytes, at + 2, wrapping_sub_u16(load, after));
-    put_half(bytes, at + 4, cost);
+impl Way {
+    pub(crate) const ALL: [Way; 6] = [
+        Way::Whole,
+        Way::Byte,
+        Way::Cut,
+        Way::Longer,
+        Way::Head,
+        Way::Board,
+    ];
 }
 
-// The job of a ring.
-pub(crate) fn job_of(ring: Drawn) -> Bytes {
-    let mut bytes = [0u8; 800];
-    let n = ring.n % 129;
-    bytes[0] = b'H';
-    bytes[1] = b'O';
-    bytes[2] = b'P';
-    bytes[4] = 1;
-    bytes[5] = ring.kind;
-    bytes[6] = n as u8;
-    for i in 0..n {
-        put_board(&mut bytes, i, ring.loads[i], ring.afters[i], ring.costs[i]);
+// The refusal that a changed number of a board is to be given for, 7 to 11.
+#[derive(Clone, Copy, Debug, PartialEq, Eq)]
+pub(crate) enum Aim {
+    Load,
+    After,
+    Cost,
+    Unlike,
+    Surplus,
+}
+
+impl Aim {
+    pub(crate) const ALL: [Aim; 5] = [Aim::Load, Aim::After, Aim::Cost, Aim::Unlike, Aim::Surplus];
+
+    // The board with one of its numbers changed.
+    fn damage(self, draws: &mut Draws, board: Board) -> Board {
+        let mut damaged = board;
+        match self {
+            Aim::Load => damaged.load = outside(draws, 4095),
+            Aim::After => {
+                let after = outside(draws, 4095);
+                damaged.surplus = board.load.wrapping_sub(after).cast_signed();
+            }
+            Aim::Cost => damaged.cost = outside(draws, 8000),
+            Aim::Unlike => damaged.cost = 1 + draws.below(8000),
+            Aim::Surplus => {
+                damaged.surplus = if draws.below(2) == 0 {
+                    board.surplus.wrapping_add(1)
+                } else {
+                    board.surplus.wrapping_sub(1)
+                };
+            }
+        }
+        damaged
     }
-    Bytes {
-        bytes,
-        length: 7 + 6 * n,
-    }
-}
-
-// A byte that is not b.
-fn other(b: u8, by: u16) -> u8 {
-    (((b as u16) + 1 + by % 255) % 256) as u8
-}
-
-// The job with the byte at a place changed.
-fn changed_at(job: Bytes, at: usize, by: u16) -> Bytes
-    requires { at < 800 }
-{
-    let mut more = job;
-    more.bytes[at] = other(job.bytes[at], by);
-    more
 }
 
 // A number outside 1 to a limit, next to it.
-fn outside(seed: &mut u64, limit: u16) -> u16 {
-    let over = draw(seed, 4);
-    if over == 0 {
-        0
-    } else {
-        wrapping_add_u16(limit, over)
+fn outside(draws: &mut Draws, limit: u16) -> u16 {
+    match draws.below(4) {
+        0 => 0,
+        over => limit.wrapping_add(over),
     }
 }
 
-// The number for a board of this load and surplus that refusal 7 to 11 is to be given for.
-fn wrong(seed: &mut u64, number: usize, load: u16, surplus: u16) -> u16 {
-    match number {
-        7 => outside(seed, 4095),
-        8 => wrapping_sub_u16(load, outside(seed, 4095)),
-        9 => outside(seed, 8000),
-        10 => 1 + draw(seed, 8000),
-        _ => wrapping_sub_u16(wrapping_add_u16(surplus, 1), 2 * draw(seed, 2)),
+impl Bytes {
+    // The job of a ring.
+    pub(crate) fn of(job: &Job) -> Self {
+        let boards = job.boards();
+        let n = boards.len();
+        let mut bytes = [0u8; ROOM];
+        let head = [b'H', b'O', b'P', 0, 1, job.kind as u8, n as u8];
+        bytes[..7].copy_from_slice(&head);
+        let (numbers, _) = bytes[7..].as_chunks_mut::<6>();
+        for (number, board) in numbers.iter_mut().zip(boards) {
+            *number = (*board).into();
+        }
+        Bytes {
+            bytes,
+            length: 7 + 6 * n,
+        }
     }
-}
 
-fn joined(high: u8, low: u8) -> u16 {
-    (high as u16) * 256 + (low as u16)
-}
-
-fn half(bytes: &[u8; 800], at: usize) -> u16
-    requires { at < 799 }
-{
-    joined(bytes[at], bytes[at + 1])
-}
-
-// Where among a board's bytes that number stands.
-fn place_of(number: usize) -> usize
-    ensures { result ≤ 4 }
-{
-    match number {
-        7 => 0,
-        8 | 11 => 2,
-        _ => 4,
+    pub(crate) fn as_slice(&self) -> &[u8] {
+        &self.bytes[..self.length]
     }
-}
 
-// The job with a number of one of its boards changed, for refusals 7 to 11.
-fn board_damaged(seed: &mut u64, job: Bytes, number: usize) -> Bytes {
-    let mut bytes = job.bytes;
-    let at = 7 + 6 * draw_place(seed, bytes[6] as usize);
-    let load = half(&bytes, at);
-    let surplus = half(&bytes, at + 2);
-    let bad = wrong(seed, number, load, surplus);
-    put_half(&mut bytes, at + place_of(number), bad);
-    Bytes {
-        bytes,
-        length: job.length,
+    // With so many bytes.
+    fn resize(&mut self, length: usize) {
+        self.length = length.min(ROOM);
     }
-}
 
-// The job with so many bytes.
-fn with_length(job: Bytes, length: usize) -> Bytes {
-    let mut other = job;
-    other.length = length;
-    other
-}
+    // With one of its first bytes changed.
+    fn change(&mut self, draws: &mut Draws, first: usize) {
+        let at = usize::from(draws.below((first % ROOM) as u16)) % ROOM;
+        let by = 1 + draws.below(255) % 255;
+        self.bytes[at] = self.bytes[at].wrapping_add(by as u8);
+    }
 
-// The job with one of its first bytes changed.
-fn changed(seed: &mut u64, job: Bytes, first: usize) -> Bytes {
-    let at = draw(seed, (first % 800) as u16) % 800;
-    changed_at(job, at as usize, draw(seed, 255))
-}
+    // With a number of one of its boards changed.
+    fn damage_board(&mut self, draws: &mut Draws, aim: Aim) {
+        let place = draws.place(usize::from(self.bytes[6]));
+        let (numbers, _) = self.bytes[7..].as_chunks_mut::<6>();
+        if let Some(number) = numbers.get_mut(place) {
+            *number = aim.damage(draws, Board::from(*number)).into();
+        }
+    }
 
-// The job whole, or damaged: a byte changed, cut, with up to 8 bytes after it, a byte of its head changed, a number of a board changed.
-pub(crate) fn damaged(seed: &mut u64, job: Bytes, way: u32, number: usize) -> Bytes {
-    let length = job.length % 800;
-    match way {
-        0 => job,
-        1 => changed(seed, job, length),
-        2 => with_length(job, draw(seed, length as u16) as usize),
-        3 => with_length(job, length + 1 + (draw(seed, 8) as usize)),
-        4 => changed(seed, job, 7),
-        _ => board_damaged(seed, job, number),
+    // The job damaged in a way; a changed number of a board aims at a refusal.
+    pub(crate) fn damaged(&self, draws: &mut Draws, way: Way, aim: Aim) -> Self {
+        let mut job = *self;
+        let length = self.length;
+        match way {
+            Way::Whole => {}
+            Way::Byte => job.change(draws, length),
+            Way::Cut => job.resize(draws.below((length % ROOM) as u16).into()),
+            Way::Longer => job.resize(length + 1 + usize::from(draws.below(8))),
+            Way::Head => job.change(draws, 7),
+            Way::Board => job.damage_board(draws, aim),
+        }
+        job
     }
 }

@@ -2,431 +2,171 @@
 // over the columns.
 #![tactic(auto)]
 
+mod answer;
+mod counts;
 mod damage;
+mod job;
 mod judge;
 mod listing;
 mod player;
+mod record;
 mod rings;
 mod second;
+mod slices;
 mod table;
 
-ghost use Rattle.std.specs.Prelude.{◌<◌, ◌≤◌};
-
-use damage::Bytes;
-use listing::Compared;
-use planner::Planned;
-use player::LISTS;
-use second::{Answer, length};
+use answer::{Answer, answer_of};
+use counts::{Counts, Plays};
+use damage::{Aim, Bytes, Way};
+use job::Job;
+use record::length;
+use rings::Draws;
+use second::{Outcome, Plan};
+use slices::{back, changed, differ, front, front_mut};
 use std::io;
-use std::num::wrapping_add_u32;
-use table::Job;
+use table::Refusal;
 
 // What every byte of a buffer is before it is lent.
 const UNTOUCHED: u8 = 170;
 
 // The rings that are drawn.
-const RINGS: u32 = 24000;
+const RINGS: usize = 24000;
 
-// What was compared, what differed, and what the judge found.
-#[derive(Clone, Copy)]
-struct Counts {
-    waiting: u32,
-    // plans whose tight link carries fewer items than another, and in which another link is as tight
-    lighter: u32,
-    equals: u32,
-    // plans with a load or a cost at its limit, and with a finish past 16 and 24 bits
-    loads: u32,
-    costs: u32,
-    past16: u32,
-    past24: u32,
-    sends: u32,
-    damaged: u32,
-    refused: [u32; 16],
-    // refusals of another board than board 0
-    elsewhere: u32,
-    short: u32,
-    differences: u32,
-    judged: [u32; 4],
-    invalid: u32,
-    lists: Compared,
+// The second planner's plan of any bytes.
+fn second_plan(bytes: &[u8], mine: &mut [u8]) -> Result<(Job, Plan), Refusal> {
+    let job = table::read(bytes)?;
+    let plan = second::plan_of(&job, mine)?;
+    Ok((job, plan))
 }
 
-fn least(a: usize, b: usize) -> usize
-    ensures within_a { result ≤ a }
-    ensures within_b { result ≤ b }
-{
-    if a < b { a } else { b }
+// The comparison so far, and what is lent: a buffer to the second planner, a buffer and a list to the planner, and the player's rows.
+#[derive(Drop)]
+struct Comparison<'a> {
+    counts: Counts,
+    plays: Plays,
+    mine: &'a mut [u8],
+    theirs: &'a mut [u8],
+    list: &'a mut [u32],
+    rows: &'a mut [u32],
 }
 
-// 1 where two numbers differ.
-fn differ(a: u32, b: u32) -> u32
-    ensures { result ≤ 1 }
-{
-    if a == b { 0 } else { 1 }
-}
+impl Comparison<'_> {
+    // The planner on the first bytes of a buffer.
+    fn planned(&mut self, job: &[u8], room: usize) -> Answer {
+        answer_of(planner::plan(job, front_mut(self.theirs, room)))
+    }
 
-// How many of the first n bytes differ.
-fn bytes_differ(a: &[u8], b: &[u8], n: usize) -> u32 {
-    let end = least(n, least(a.len(), b.len()));
-    let mut found: u32 = 0;
-    for i in 0..end {
-        if a[i] != b[i] {
-            found = wrapping_add_u32(found, 1);
+    // What differs after both have planned a job: the answers, the bytes lent, and those past the plan's end that are not as they were.
+    fn found(&self, mine: Answer, theirs: Answer, room: usize) -> usize {
+        let written = mine.map_or(0, |outcome| length(outcome.moves));
+        let lent = front(self.mine, room);
+        usize::from(mine != theirs)
+            .saturating_add(differ(lent, front(self.theirs, room)))
+            .saturating_add(changed(back(lent, written), &UNTOUCHED))
+    }
+
+    // The planner's plan judged and counted by its kind, where it gave one.
+    fn judge(&mut self, job: &Job, answer: Answer) {
+        let Ok(Outcome { moves, .. }) = answer else {
+            return;
+        };
+        let faults = judge::faults(job, moves, front(self.theirs, length(moves)));
+        self.counts.judged[job.kind as usize].add(1);
+        self.counts.invalid.add_if(0 < faults.0);
+    }
+
+    // One byte too few for a plan of this length: the planner refuses, and no byte changes.
+    fn compare_short(&mut self, job: &[u8], length: usize) {
+        let answer = self.planned(job, length.saturating_sub(1));
+        let differences = changed(front(self.theirs, length), &UNTOUCHED);
+        self.counts
+            .differences
+            .add_if(answer != Err(Refusal::Buffer.into()));
+        self.counts.differences.add(differences);
+    }
+
+    // A job that has a plan, which is in `mine`. The planner is lent 0 to 8 bytes more than the plan's. A play that was given up differs from every
+    // answer.
+    fn compare_plan(&mut self, bytes: &[u8], job: &Job, plan: &Plan) {
+        let outcome = plan.outcome;
+        let written = length(outcome.moves);
+        let room = written + (8 - outcome.moves % 9) as usize;
+        self.counts.count_plan(job, plan);
+        let answer = self.planned(bytes, room);
+        let differences = self.found(Ok(outcome), answer, room);
+        self.counts.differences.add(differences);
+        self.counts.differences.add(plan.left as usize);
+        self.judge(job, answer);
+        front_mut(self.theirs, room).fill(UNTOUCHED);
+        self.compare_short(bytes, written);
+        self.compare_list(bytes, job, plan, room);
+        front_mut(self.mine, written).fill(UNTOUCHED);
+    }
+
+    // A job that is refused. The planner is lent all bytes for a plan that is longer than the buffer, else 8.
+    fn compare_refused(&mut self, bytes: &[u8], refusal: Refusal) {
+        let room = match refusal {
+            Refusal::Buffer => self.theirs.len(),
+            _ => 8,
+        };
+        self.counts.count_refusal(refusal);
+        let answer = self.planned(bytes, room);
+        let differences = self.found(Err(refusal.into()), answer, room);
+        self.counts.differences.add(differences);
+        front_mut(self.theirs, room).fill(UNTOUCHED);
+        self.compare_refused_list(bytes, refusal, room);
+    }
+
+    // One job.
+    fn compare(&mut self, bytes: &[u8]) {
+        match second_plan(bytes, self.mine) {
+            Ok((job, plan)) => self.compare_plan(bytes, &job, &plan),
+            Err(refusal) => self.compare_refused(bytes, refusal),
         }
     }
-    found
-}
 
-// How many bytes from a place up to another are not as they were.
-fn touched(a: &[u8], from: usize, to: usize) -> u32 {
-    let end = least(to, a.len());
-    let mut found: u32 = 0;
-    for i in from..end {
-        if a[i] != UNTOUCHED {
-            found = wrapping_add_u32(found, 1);
+    // How far the job writer's bytes differ from a ring's job. One that it refuses differs.
+    fn compare_writer(&mut self, ring: &Job, job: &Bytes) {
+        let mut theirs = [0u8; 800];
+        let length = rings::write(ring, &mut theirs);
+        let bytes = job.as_slice();
+        let differences = differ(bytes, front(&theirs, bytes.len()));
+        let past = changed(back(&theirs, bytes.len()), &0);
+        self.counts.differences.add_if(length != Some(bytes.len()));
+        self.counts.differences.add(differences);
+        self.counts.differences.add(past);
+    }
+
+    // Ring r: its job whole, and damaged in every way. Its jobs are damaged for refusals 7 to 11 by turns.
+    fn compare_ring(&mut self, draws: &mut Draws, r: usize) {
+        let ring = rings::draw_ring(draws, r);
+        let job = Bytes::of(&ring);
+        self.compare_writer(&ring, &job);
+        for way in Way::ALL {
+            let damaged = job.damaged(draws, way, Aim::ALL[r % 5]);
+            self.compare(damaged.as_slice());
+            self.counts.damaged.add_if(way != Way::Whole);
         }
     }
-    found
-}
 
-fn restore(a: &mut [u8], n: usize) {
-    let end = least(n, a.len());
-    for i in 0..end {
-        a[i] = UNTOUCHED;
-    }
-}
-
-// How far the two answers differ. A play that was given up differs from every answer.
-fn answers_differ(mine: Answer, theirs: Planned) -> u32 {
-    match theirs {
-        Planned::Plan {
-            finish,
-            moves,
-            tight,
-        } => {
-            differ(mine.number as u32, 0)
-                + differ(mine.finish, finish)
-                + differ(mine.moves, moves)
-                + differ(mine.tight as u32, tight as u32)
-                + differ(mine.left, 0)
-        }
-        Planned::Refused { number, board } => {
-            differ(mine.number as u32, number as u32) + differ(mine.board as u32, board as u32)
+    fn compare_all(&mut self) {
+        let mut draws = Draws::new();
+        for r in 0..RINGS {
+            self.compare_ring(&mut draws, r);
         }
     }
-}
-
-// The length of the second planner's plan, 0 where it gave none.
-fn written(mine: Answer) -> usize
-    ensures { result < 1000000000000 }
-{
-    if mine.number == 0 {
-        length(mine.moves)
-    } else {
-        0
-    }
-}
-
-// One more where it is so.
-fn more_if(n: u32, so: bool) -> u32 {
-    if so { wrapping_add_u32(n, 1) } else { n }
-}
-
-fn counted_refusal(counts: Counts, number: u8, board: u8) -> Counts {
-    let mut more = counts;
-    let k = (number % 16) as usize;
-    more.refused[k] = wrapping_add_u32(counts.refused[k], 1);
-    more.elsewhere = more_if(counts.elsewhere, 0 < board);
-    more
-}
-
-fn counted(counts: Counts, job: Job, mine: Answer) -> Counts {
-    if mine.number != 0 {
-        return counted_refusal(counts, mine.number, mine.board);
-    }
-    let mut more = counts;
-    more.waiting = more_if(counts.waiting, 0 < mine.waits);
-    more.lighter = more_if(counts.lighter, 0 < mine.lighter);
-    more.equals = more_if(counts.equals, 0 < mine.equals);
-    more.loads = more_if(counts.loads, job.load == 4095);
-    more.costs = more_if(counts.costs, job.cost == 8000);
-    more.past16 = more_if(counts.past16, 65535 < mine.finish);
-    more.past24 = more_if(counts.past24, 16777215 < mine.finish);
-    more.sends = wrapping_add_u32(counts.sends, mine.moves);
-    more.short = wrapping_add_u32(counts.short, 1);
-    more
-}
-
-// The planner's plan judged and counted by its kind, where it gave one.
-fn judged(counts: Counts, job: Job, planned: Planned, theirs: &[u8]) -> Counts {
-    let Planned::Plan { moves, .. } = planned else {
-        return counts;
-    };
-    let end = least(length(moves), theirs.len());
-    let faults = judge::faults(job, moves, &theirs[0..end]);
-    let mut more = counts;
-    let k = (job.kind % 4) as usize;
-    more.judged[k] = wrapping_add_u32(counts.judged[k], 1);
-    more.invalid = more_if(counts.invalid, 0 < faults);
-    more
-}
-
-// The planner on the first bytes of a buffer.
-fn plan_part(job: &[u8], theirs: &mut [u8], room: usize) -> Planned {
-    let end = least(room, theirs.len());
-    planner::plan(job, &mut theirs[0..end])
-}
-
-// What differs after both have planned a job: the answers, the bytes lent, and those past the plan's end that are not as they were.
-fn found(answer: Answer, planned: Planned, mine: &[u8], theirs: &[u8], room: usize) -> u32 {
-    let bytes = bytes_differ(mine, theirs, room);
-    let past = touched(mine, written(answer), room);
-    wrapping_add_u32(
-        answers_differ(answer, planned),
-        wrapping_add_u32(bytes, past),
-    )
-}
-
-// One byte too few for a plan of this length: the planner refuses, and no byte changes.
-fn compare_short(job: &[u8], end: usize, theirs: &mut [u8]) -> u32 {
-    if end == 0 {
-        return 0;
-    }
-    let planned = plan_part(job, theirs, end - 1);
-    let past = touched(theirs, 0, end);
-    match planned {
-        Planned::Plan {
-            finish: _,
-            moves: _,
-            tight: _,
-        } => 1,
-        Planned::Refused { number, board } => wrapping_add_u32(
-            past,
-            differ(number as u32, 13) + differ(board as u32, 0),
-        ),
-    }
-}
-
-// The bytes that are lent to the planner: for a plan that is longer than the buffer all of them, else the plan's and 0 to 8 more.
-fn room_of(mine: Answer, all: usize) -> usize {
-    if mine.number == 13 {
-        all
-    } else {
-        written(mine) + (8 - mine.moves % 9) as usize
-    }
-}
-
-// The planner beside an answer of the second planner, whose plan is in `mine`.
-fn compare_with(
-    counts: Counts,
-    job: Job,
-    answer: Answer,
-    bytes: &[u8],
-    mine: &[u8],
-    theirs: &mut [u8],
-) -> Counts {
-    let room = room_of(answer, mine.len());
-    let planned = plan_part(bytes, theirs, room);
-    let differences = found(answer, planned, mine, theirs, room);
-    let mut more = judged(counts, job, planned, theirs);
-    restore(theirs, room);
-    let short = compare_short(bytes, written(answer), theirs);
-    more.differences = wrapping_add_u32(counts.differences, wrapping_add_u32(differences, short));
-    more
-}
-
-// One job.
-fn compare(
-    counts: Counts,
-    bytes: &[u8],
-    mine: &mut [u8],
-    theirs: &mut [u8],
-    lists: &mut [u32],
-) -> Counts {
-    let job = table::read(bytes);
-    let answer = second::plan(job, mine);
-    let all = counted(counts, job, answer);
-    let both = compare_with(all, job, answer, bytes, mine, theirs);
-    let more = listing::compare(both, job, answer, bytes, mine, theirs, lists);
-    restore(mine, written(answer));
-    more
-}
-
-// The first bytes of a buffer as a job.
-fn compare_first(
-    counts: Counts,
-    bytes: &[u8],
-    length: usize,
-    mine: &mut [u8],
-    theirs: &mut [u8],
-    lists: &mut [u32],
-) -> Counts {
-    let end = least(length, bytes.len());
-    compare(counts, &bytes[0..end], mine, theirs, lists)
-}
-
-// The job whole, and damaged in every way; the last damage aims at the refusal of this number.
-fn compare_job(
-    counts: Counts,
-    seed: &mut u64,
-    job: Bytes,
-    number: usize,
-    mine: &mut [u8],
-    theirs: &mut [u8],
-    lists: &mut [u32],
-) -> Counts {
-    let mut all = counts;
-    for way in 0..6 {
-        let damaged = damage::damaged(seed, job, way, number);
-        let bytes = damaged.bytes;
-        all = compare_first(all, &bytes, damaged.length, mine, theirs, lists);
-        all.damaged = more_if(all.damaged, 0 < way);
-    }
-    all
-}
-
-// How far the job writer's bytes differ from a ring's job. One that it refuses differs.
-fn write_differs(ring: rings::Drawn, job: Bytes) -> u32 {
-    let bytes = job.bytes;
-    let mut theirs = [0u8; 800];
-    let length = rings::write(ring, &mut theirs);
-    wrapping_add_u32(
-        bytes_differ(&bytes, &theirs, 800),
-        if length == job.length { 0 } else { 1 },
-    )
-}
-
-// Ring r. Its jobs are damaged for refusals 7 to 11 by turns.
-fn compare_ring(
-    counts: Counts,
-    seed: &mut u64,
-    r: u32,
-    mine: &mut [u8],
-    theirs: &mut [u8],
-    lists: &mut [u32],
-) -> Counts {
-    let ring = rings::draw_ring(seed, r);
-    let job = damage::job_of(ring);
-    let mut all = counts;
-    all.differences = wrapping_add_u32(counts.differences, write_differs(ring, job));
-    compare_job(all, seed, job, 7 + (r % 5) as usize, mine, theirs, lists)
-}
-
-fn compare_all(mine: &mut [u8], theirs: &mut [u8], lists: &mut [u32]) -> Counts {
-    let mut counts = Counts {
-        waiting: 0,
-        lighter: 0,
-        equals: 0,
-        loads: 0,
-        costs: 0,
-        past16: 0,
-        past24: 0,
-        sends: 0,
-        damaged: 0,
-        refused: [0; 16],
-        elsewhere: 0,
-        short: 0,
-        differences: 0,
-        judged: [0; 4],
-        invalid: 0,
-        lists: listing::none(),
-    };
-    let mut seed: u64 = 1;
-    for r in 0..RINGS {
-        counts = compare_ring(counts, &mut seed, r, mine, theirs, lists);
-    }
-    counts
-}
-
-fn line(rt: &impl Print, label: &str, n: u32) -> io::Result<()> {
-    println!(rt; "{label}{n}")
-}
-
-// A count of one kind or of one refusal.
-fn numbered(rt: &impl Print, label: &str, number: u32, n: u32) -> io::Result<()> {
-    println!(rt; "{label}{number}: {n}")
-}
-
-fn print_rings(rt: &impl Print, counts: Counts) -> io::Result<()> {
-    let judged = counts.judged;
-    numbered(rt, "plans judged of kind ", 1, judged[1])?;
-    numbered(rt, "plans judged of kind ", 2, judged[2])?;
-    numbered(rt, "plans judged of kind ", 3, judged[3])?;
-    line(rt, "plans in which a board waits: ", counts.waiting)?;
-    line(
-        rt,
-        "plans whose tight link carries fewer items than another: ",
-        counts.lighter,
-    )?;
-    line(
-        rt,
-        "plans in which another link is as tight: ",
-        counts.equals,
-    )
-}
-
-fn print_limits(rt: &impl Print, counts: Counts) -> io::Result<()> {
-    line(rt, "plans with a load of 4095: ", counts.loads)?;
-    line(rt, "plans with a cost of 8000: ", counts.costs)?;
-    line(rt, "plans with a finish past 16 bits: ", counts.past16)?;
-    line(rt, "plans with a finish past 24 bits: ", counts.past24)?;
-    line(rt, "sends: ", counts.sends)
-}
-
-fn refusal(rt: &impl Print, number: u32, n: u32) -> io::Result<()> {
-    numbered(rt, "refused ", number, n)
-}
-
-// Refusals 1 to 11 and 13; 12 is never given.
-fn print_refusals(rt: &impl Print, refused: [u32; 16]) -> io::Result<()> {
-    for i in 1..12 {
-        refusal(rt, i as u32, refused[i])?;
-    }
-    refusal(rt, 13, refused[13])
-}
-
-fn print_found(rt: &impl Print, counts: Counts) -> io::Result<()> {
-    line(rt, "refusals of a board other than 0: ", counts.elsewhere)?;
-    line(rt, "damaged jobs: ", counts.damaged)?;
-    line(rt, "buffers a byte short: ", counts.short)?;
-    line(rt, "differences: ", counts.differences)?;
-    line(rt, "plans that are no valid schedule: ", counts.invalid)
-}
-
-fn print_play_limits(rt: &impl Print, lists: Compared) -> io::Result<()> {
-    line(rt, "plays of 128 boards: ", lists.widest)?;
-    line(rt, "plays with more than 65536 columns: ", lists.longest)?;
-    line(rt, "plays with sends and a load of 4095: ", lists.loads)?;
-    line(rt, "plays with sends and a cost of 8000: ", lists.costs)?;
-    line(rt, "plays with a finish past 16 bits: ", lists.late)
-}
-
-fn print_lists(rt: &impl Print, lists: Compared) -> io::Result<()> {
-    let played = lists.played;
-    numbered(rt, "plans played of kind ", 1, played[1])?;
-    numbered(rt, "plans played of kind ", 2, played[2])?;
-    numbered(rt, "plans played of kind ", 3, played[3])?;
-    line(rt, "boards compared: ", lists.boards)?;
-    line(rt, "columns compared: ", lists.columns)?;
-    line(rt, "plays in which a board waits: ", lists.waiting)?;
-    line(rt, "plays in which a list wraps: ", lists.wrapped)?;
-    print_play_limits(rt, lists)?;
-    line(rt, "refused 16: ", lists.sixteen)?;
-    line(rt, "lists a place short: ", lists.short)?;
-    line(rt, "faults of play: ", lists.faults)?;
-    line(rt, "differences in columns: ", lists.differences)
 }
 
 fn main(rt: HostRuntime) -> io::Result<()> {
-    let mut mine = [UNTOUCHED; 65535];
-    let mut theirs = [UNTOUCHED; 65535];
-    let mut lists = [listing::EMPTY; LISTS];
-    let counts = compare_all(&mut mine, &mut theirs, &mut lists);
-    let refused = counts.refused;
-    let columns = counts.lists;
-    print_rings(&rt, counts)?;
-    print_limits(&rt, counts)?;
-    print_refusals(&rt, refused)?;
-    print_found(&rt, counts)?;
-    print_lists(&rt, columns)
+    let mut comparison = Comparison {
+        counts: Counts::default(),
+        plays: Plays::default(),
+        mine: &mut [UNTOUCHED; 65535],
+        theirs: &mut [UNTOUCHED; 65535],
+        list: &mut [listing::EMPTY; player::COLUMNS + 16],
+        rows: &mut [0; player::ROWS],
+    };
+    comparison.compare_all();
+    comparison.counts.print(&rt)?;
+    comparison.plays.print(&rt)
 }

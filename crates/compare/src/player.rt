@@ -1,235 +1,226 @@
 // The player: a plan's records played tick by tick over lists of column numbers, in the words of document 02's order 1. It knows the plan's
 // bytes and the job's loads and costs, and nothing of where a column has to end.
-ghost use Rattle.std.specs.Prelude.{◌<◌};
-
-use crate::judge::{direction_of, end_of, place, start_of};
-use crate::table::{Job, boards, byte};
-use std::num::{wrapping_add_u32, wrapping_add_usize, wrapping_sub_u32};
+use crate::counts::Count;
+use crate::job::{Board, Job, MOST_BOARDS};
+use crate::record::{Direction, Record};
+use std::mem;
 
 // The longest play: its columns, its sends, and for each board its span, which is its finish times one more than its sends. How many plays there
 // are, and how many of them reach a limit, is printed.
-pub(crate) const COLUMNS: u32 = 131072;
+pub(crate) const COLUMNS: usize = 131072;
 
-pub(crate) const SENDS: u32 = 2048;
+pub(crate) const SENDS: usize = 2048;
 
 pub(crate) const SPAN: u64 = 4000;
 
 // Whatever their span, the first so many plans with a finish past 16 bits are played that have at most so many sends and so late a finish.
-pub(crate) const LATE_PLAYS: u32 = 64;
+pub(crate) const LATE_PLAYS: usize = 64;
 
 pub(crate) const LATE_SENDS: u32 = 24;
 
 pub(crate) const LATE_FINISH: u32 = 300000;
 
-// All lists stand in one: first the list that is lent to the function, with some places past its end; then what is known of the boards and
-// their links, 128 numbers of each sort; then a row for each board, where its list has as many places free on either side as there are sends.
-const FIRSTS: usize = COLUMNS as usize + 16;
+// The boards' lists stand in one, in a row for each board, where its list has as many places free on either side as there are sends. They are no
+// `VecDeque`s, since the program plays in fixed memory: a list that could not grow would end the comparison.
+pub(crate) const ROWS: usize = 2 * MOST_BOARDS * SENDS + COLUMNS;
 
-const ENDS: usize = FIRSTS + 128;
-
-const COSTS: usize = FIRSTS + 256;
-
-// What is under way on a link, forward and back.
-const FORWARD: usize = FIRSTS + 384;
-
-const BACK: usize = FIRSTS + 512;
-
-const ROWS: u32 = COLUMNS + 656;
-
-pub(crate) const LISTS: usize = ROWS as usize + 2 * 128 * SENDS as usize + COLUMNS as usize;
-
-// Where no column is.
-const NONE: u32 = u32::MAX;
-
-// A record's send: the board that sends and the one that receives, the place of what is under way, and the direction.
+// Where a board's list begins, and the place after its last column.
 #[derive(Clone, Copy)]
-struct Send {
-    from: usize,
-    to: usize,
-    way: usize,
-    forward: bool,
+struct Row {
+    first: usize,
+    end: usize,
 }
 
-// The number at a place, NONE past the end.
-pub(crate) fn number_at(lists: &[u32], at: usize) -> u32 {
-    if at < lists.len() { lists[at] } else { NONE }
+// A board and its link: its list, the link's cost, and the columns that are under way on the link, forward and back.
+#[derive(Clone, Copy)]
+pub(crate) struct Seat {
+    row: Row,
+    cost: u16,
+    ways: [Option<u32>; 2],
 }
 
-fn put(lists: &mut [u32], at: usize, number: u32) {
-    if at < lists.len() {
-        lists[at] = number;
-    }
+// The boards in play, the rows, and the faults so far.
+#[derive(Drop)]
+pub(crate) struct Player<'a> {
+    seats: &'a mut [Seat],
+    rows: &'a mut [u32],
+    pub(crate) faults: Count,
 }
 
-// Where the list of board i begins, and the place after its last column.
-pub(crate) fn list_first(lists: &[u32], i: usize) -> u32 {
-    number_at(lists, wrapping_add_usize(FIRSTS, i))
-}
-
-pub(crate) fn list_end(lists: &[u32], i: usize) -> u32 {
-    number_at(lists, wrapping_add_usize(ENDS, i))
-}
-
-// The last column of board i is taken from its list.
-fn take_last(lists: &mut [u32], i: usize) -> u32 {
-    let end = list_end(lists, i);
-    if end <= list_first(lists, i) {
-        return NONE;
-    }
-    put(lists, wrapping_add_usize(ENDS, i), end - 1);
-    number_at(lists, (end - 1) as usize)
-}
-
-// The first column of board i is taken from its list.
-fn take_first(lists: &mut [u32], i: usize) -> u32 {
-    let first = list_first(lists, i);
-    if list_end(lists, i) <= first {
-        return NONE;
-    }
-    put(
-        lists,
-        wrapping_add_usize(FIRSTS, i),
-        wrapping_add_u32(first, 1),
-    );
-    number_at(lists, first as usize)
-}
-
-// Board i puts a column first in its list.
-fn put_first(lists: &mut [u32], i: usize, column: u32) {
-    let first = wrapping_sub_u32(list_first(lists, i), 1);
-    put(lists, wrapping_add_usize(FIRSTS, i), first);
-    put(lists, first as usize, column);
-}
-
-// Board i puts a column last in its list.
-fn put_last(lists: &mut [u32], i: usize, column: u32) {
-    let end = list_end(lists, i);
-    put(lists, wrapping_add_usize(ENDS, i), wrapping_add_u32(end, 1));
-    put(lists, end as usize, column);
-}
-
-// A forward send takes the board's last column, and a back send its first.
-fn take(lists: &mut [u32], send: Send) -> u32 {
-    if send.forward {
-        return take_last(lists, send.from);
-    }
-    take_first(lists, send.from)
-}
-
-// A send starts. 1 where the board has no column, or the link holds one already.
-fn depart(lists: &mut [u32], send: Send) -> u32 {
-    let held = number_at(lists, send.way);
-    let column = take(lists, send);
-    put(lists, send.way, column);
-    if held != NONE {
-        return 1;
-    }
-    if column == NONE { 1 } else { 0 }
-}
-
-// A send ends: the board puts a column that came forward first, and one that came back last. 1 where the link holds none.
-fn arrive(lists: &mut [u32], send: Send) -> u32 {
-    let column = number_at(lists, send.way);
-    if column == NONE {
-        return 1;
-    }
-    put(lists, send.way, NONE);
-    if send.forward {
-        put_first(lists, send.to, column);
-    } else {
-        put_last(lists, send.to, column);
-    }
-    0
-}
-
-// The board that link i leads to in a ring of n.
-fn next(i: usize, n: usize) -> usize {
-    let next = wrapping_add_usize(i, 1);
-    if next < n { next } else { 0 }
-}
-
-fn send_of(link: usize, direction: u8, n: usize) -> Send {
-    if direction == 0 {
-        return Send {
-            from: link,
-            to: next(link, n),
-            way: wrapping_add_usize(FORWARD, link),
-            forward: true,
-        };
-    }
-    Send {
-        from: next(link, n),
-        to: link,
-        way: wrapping_add_usize(BACK, link),
-        forward: false,
-    }
-}
-
-// Record k at tick t, where the arrivals or else the sends have their turn. How many faults that is.
-fn step(plan: &[u8], k: u32, t: u64, arrivals: bool, n: usize, lists: &mut [u32]) -> u32 {
-    let link = byte(plan, place(k)) as usize;
-    let send = send_of(link, direction_of(plan, k), n);
-    if arrivals {
-        let cost = number_at(lists, wrapping_add_usize(COSTS, link));
-        if end_of(plan, k, cost) == t {
-            return arrive(lists, send);
+impl Row {
+    // Each takes the first or the last column from the list, or gives a place to put one first or last.
+    fn take_first(&mut self) -> Option<usize> {
+        if self.end <= self.first {
+            return None;
         }
-        return 0;
+        self.first += 1;
+        Some(self.first - 1)
     }
-    if start_of(plan, k) == t {
-        return depart(lists, send);
-    }
-    0
-}
 
-// All arrivals of tick t, or else all its sends, record by record.
-fn turn(plan: &[u8], moves: u32, t: u64, arrivals: bool, n: usize, lists: &mut [u32]) -> u32 {
-    let mut faults: u32 = 0;
-    for k in 0..moves {
-        faults = wrapping_add_u32(faults, step(plan, k, t, arrivals, n, lists));
+    fn take_last(&mut self) -> Option<usize> {
+        if self.end <= self.first {
+            return None;
+        }
+        self.end -= 1;
+        Some(self.end)
     }
-    faults
-}
 
-// A plan of so many sends played from tick 0 to its finish: at each tick the arrivals, then the sends. How many faults there were.
-pub(crate) fn play(plan: &[u8], moves: u32, finish: u32, n: u8, lists: &mut [u32]) -> u32 {
-    let mut faults: u32 = 0;
-    for t in 0..(finish as u64) + 1 {
-        let arrived = turn(plan, moves, t, true, boards(n), lists);
-        let sent = turn(plan, moves, t, false, boards(n), lists);
-        faults = wrapping_add_u32(faults, wrapping_add_u32(arrived, sent));
+    fn put_first(&mut self) -> usize {
+        self.first = self.first.wrapping_sub(1);
+        self.first
     }
-    faults
-}
 
-// So many columns, numbered from one on, put one after the other from a place on.
-fn lay_columns(lists: &mut [u32], first: u32, load: u32, column: u32) {
-    for k in 0..load {
-        let at = wrapping_add_u32(first, k);
-        put(lists, at as usize, wrapping_add_u32(column, k));
+    fn put_last(&mut self) -> usize {
+        let place = self.end;
+        self.end = place.wrapping_add(1);
+        place
     }
 }
 
-// Board i with its columns, numbered from one on.
-fn lay_board(lists: &mut [u32], i: usize, load: u32, cost: u32, column: u32)
-    requires { i < 128 }
+// So many columns, numbered from one on.
+fn number(row: &mut [u32], first: u32) {
+    for (place, column) in row.iter_mut().zip(first..) {
+        *place = column;
+    }
+}
+
+// What is done with each of a plan's records.
+fn each<F: FnMut(Record) + Drop>(records: &[[u8; 6]], mut act: F)
+    requires { F.IsAlwaysCallable act }
 {
-    let row = ROWS + SENDS + 2 * SENDS * (i as u32);
-    let first = wrapping_add_u32(row, column);
-    put(lists, FIRSTS + i, first);
-    put(lists, ENDS + i, wrapping_add_u32(first, load));
-    put(lists, COSTS + i, cost);
-    put(lists, FORWARD + i, NONE);
-    put(lists, BACK + i, NONE);
-    lay_columns(lists, first, load, column);
+    for bytes in records {
+        if let Ok(record) = Record::try_from(*bytes) {
+            act(record);
+        }
+    }
 }
 
-// The boards as a play begins, their columns numbered from 0, board 0's first.
-pub(crate) fn lay(job: Job, lists: &mut [u32]) {
-    let mut column: u32 = 0;
-    let n = boards(job.n);
-    for i in 0..n {
-        lay_board(lists, i, job.loads[i], job.costs[i], column);
-        column = wrapping_add_u32(column, job.loads[i]);
+impl Seat {
+    pub(crate) const EMPTY: Seat = Seat {
+        row: Row { first: 0, end: 0 },
+        cost: 0,
+        ways: [None; 2],
+    };
+
+    // A board at the beginning, whose row starts at a place and whose columns are numbered from one on.
+    fn new(board: &Board, start: usize, column: u32, rows: &mut [u32]) -> Self {
+        let first = start.wrapping_add(SENDS);
+        let end = first.wrapping_add(usize::from(board.load));
+        if let Some(row) = rows.get_mut(first..end) {
+            number(row, column);
+        }
+        Seat {
+            row: Row { first, end },
+            cost: board.cost,
+            ways: [None; 2],
+        }
+    }
+}
+
+impl<'a> Player<'a> {
+    // The boards as a play begins, their columns numbered from 0, board 0's first.
+    pub(crate) fn new(job: &Job, seats: &'a mut [Seat], rows: &'a mut [u32]) -> Self {
+        let mut start: usize = 0;
+        let mut column: u32 = 0;
+        for (place, board) in seats.iter_mut().zip(job.boards()) {
+            *place = Seat::new(board, start, column, rows);
+            start = place.row.end.wrapping_add(SENDS);
+            column = column.wrapping_add(board.load.into());
+        }
+        Player {
+            seats,
+            rows,
+            faults: Count::default(),
+        }
+    }
+
+    // The columns of board i.
+    pub(crate) fn columns(&self, i: usize) -> &[u32] {
+        let row = self.seats.get(i).map(|seat| seat.row);
+        row.and_then(|row| self.rows.get(row.first..row.end))
+            .unwrap_or(&[])
+    }
+
+    // The board that a link leads to.
+    fn next(&self, link: usize) -> usize {
+        if link.wrapping_add(1) < self.seats.len() {
+            link.wrapping_add(1)
+        } else {
+            0
+        }
+    }
+
+    // A forward send takes the board's last column, and a back send its first.
+    fn take(&mut self, record: Record) -> Option<u32> {
+        let link = usize::from(record.link);
+        let next = self.next(link);
+        let place = match record.direction {
+            Direction::Forward => self.seats.get_mut(link)?.row.take_last()?,
+            Direction::Back => self.seats.get_mut(next)?.row.take_first()?,
+        };
+        self.rows.get(place).copied()
+    }
+
+    // The board puts a column that came forward first, and one that came back last.
+    fn put(&mut self, record: Record, column: u32) -> Option<()> {
+        let link = usize::from(record.link);
+        let next = self.next(link);
+        let place = match record.direction {
+            Direction::Forward => self.seats.get_mut(next)?.row.put_first(),
+            Direction::Back => self.seats.get_mut(link)?.row.put_last(),
+        };
+        *self.rows.get_mut(place)? = column;
+        Some(())
+    }
+
+    // What is under way on a record's link in its direction, in whose place comes another.
+    fn replace(&mut self, record: Record, column: Option<u32>) -> Option<u32> {
+        let seat = self.seats.get_mut(usize::from(record.link))?;
+        mem::replace(&mut seat.ways[record.direction as usize], column)
+    }
+
+    // A send starts: the board has a column, and the link holds none.
+    fn depart(&mut self, record: Record) {
+        let column = self.take(record);
+        let held = self.replace(record, column);
+        self.faults.add_if(held.is_some() || column.is_none());
+    }
+
+    // A send ends: the link holds a column, and the board has a place for it.
+    fn arrive(&mut self, record: Record) {
+        let put = self
+            .replace(record, None)
+            .and_then(|column| self.put(record, column));
+        self.faults.add_if(put.is_none());
+    }
+
+    fn end_of(&self, record: Record) -> Option<u64> {
+        Some(record.end(self.seats.get(usize::from(record.link))?.cost))
+    }
+
+    // All arrivals of tick t.
+    fn arrivals(&mut self, records: &[[u8; 6]], t: u64) {
+        each(records, |record| {
+            if self.end_of(record) == Some(t) {
+                self.arrive(record);
+            }
+        });
+    }
+
+    // All sends of tick t.
+    fn departures(&mut self, records: &[[u8; 6]], t: u64) {
+        each(records, |record| {
+            if u64::from(record.start) == t {
+                self.depart(record);
+            }
+        });
+    }
+
+    // A plan's records played from tick 0 to its finish: at each tick the arrivals, then the sends.
+    pub(crate) fn play(&mut self, records: &[[u8; 6]], finish: u32) {
+        for t in 0..=u64::from(finish) {
+            self.arrivals(records, t);
+            self.departures(records, t);
+        }
     }
 }

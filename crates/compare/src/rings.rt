@@ -1,267 +1,221 @@
 // Rings of all kinds and sizes, drawn by a small generator: the same ones in every run.
 ghost use Rattle.std.specs.Prelude.{◌<◌, ◌≤◌};
 
-use hop::Written;
-use std::num::wrapping_add_u16;
+use crate::job::{Board, Job, Kind, MOST_BOARDS};
+use crate::slices::{front, front_mut};
 
-// Eight ways of drawing loads, by turns: small; small and with no surplus; a fourth of the boards, one board, or half of the boards with more
-// than 1, and the whole surplus; near the limit; one board, or half of the boards, at the limit, and surpluses in the thousands.
-const LEAST: [u16; 8] = [1, 1, 1, 1, 1, 4000, 4095, 4095];
+// How many of a ring's boards.
+#[derive(Clone, Copy)]
+enum Share {
+    All,
+    Half,
+    Fourth,
+    Fixed(usize),
+}
 
-const SPREAD: [u16; 8] = [6, 6, 30, 60, 12, 96, 1, 1];
+impl Share {
+    fn of(self, n: usize) -> usize {
+        match self {
+            Share::All => n,
+            Share::Half => n / 2 + 1,
+            Share::Fourth => n / 4 + 1,
+            Share::Fixed(count) => count,
+        }
+    }
+}
 
-// The items that go from a board to another in one draw, at most.
-const ITEMS: [u16; 8] = [8, 8, 8, 8, 8, 8, 4094, 4094];
+// Eight ways of drawing loads, by turns: the least load and from how many on, for the boards with the surplus, which are so many; and how often
+// items are drawn to go from one of them to another board, and how many at most.
+const LOADS: [(u16, u16, Share, Share, u16); 8] = [
+    // small, and the same with no surplus
+    (1, 6, Share::All, Share::All, 8),
+    (1, 6, Share::All, Share::Fixed(0), 8),
+    // a fourth of the boards, one board, or half of the boards with more than 1, and the whole surplus
+    (1, 30, Share::Fourth, Share::All, 8),
+    (1, 60, Share::Fixed(1), Share::All, 8),
+    (1, 12, Share::Half, Share::All, 8),
+    // near the limit
+    (4000, 96, Share::All, Share::All, 8),
+    // one board, or half of the boards, at the limit, and surpluses in the thousands
+    (4095, 1, Share::Fixed(1), Share::Fixed(2), 4094),
+    (4095, 1, Share::Half, Share::All, 4094),
+];
 
-// Six ways of drawing costs: in kind 2 falling from link to link, else 1 to 10; all 1; 1 to 9; 1 to 40; 1 to 8,000; all 8,000.
-const LEAST_COST: [u16; 6] = [1, 1, 1, 1, 1, 8000];
+// How a ring's costs are drawn: the least, and from how many on. Where they fall, those of kind 2 fall from link to link instead.
+#[derive(Clone, Copy)]
+enum Costs {
+    Falling(u16, u16),
+    Drawn(u16, u16),
+}
 
-const COSTS: [u16; 6] = [10, 1, 9, 40, 8000, 1];
+impl Costs {
+    // The cost of every link but in kind 2.
+    fn common(self, draws: &mut Draws) -> u16 {
+        match self {
+            Costs::Falling(least, spread) | Costs::Drawn(least, spread) => {
+                draws.pick((least, spread))
+            }
+        }
+    }
 
-// How a ring is drawn. The boards with the surplus are `width` boards from board `mark` on.
+    // The cost of link k in kind 2.
+    fn mixed(self, draws: &mut Draws, k: usize) -> u16 {
+        match self {
+            Costs::Falling(_, _) => 15 - 2 * ((k % 8) as u16),
+            Costs::Drawn(least, spread) => draws.pick((least, spread)),
+        }
+    }
+}
+
+// Six ways of drawing costs, by turns.
+const COSTS: [Costs; 6] = [
+    Costs::Falling(1, 10),
+    Costs::Drawn(1, 1),
+    Costs::Drawn(1, 9),
+    Costs::Drawn(1, 40),
+    Costs::Drawn(1, 8000),
+    Costs::Drawn(8000, 1),
+];
+
+// The generator of a run.
+#[derive(Drop)]
+pub(crate) struct Draws(u64);
+
+impl Draws {
+    pub(crate) fn new() -> Self {
+        Draws(1)
+    }
+
+    // The next number, below the one given and below 8,192; 0 where that is 0.
+    pub(crate) fn below(&mut self, limit: u16) -> u16
+        ensures { result < 8192 }
+    {
+        self.0 = self.0 % 2147483647 * 48271 % 2147483647;
+        if limit == 0 {
+            return 0;
+        }
+        (self.0 / 16 % u64::from(limit) % 8192) as u16
+    }
+
+    // One of n boards.
+    pub(crate) fn place(&mut self, n: usize) -> usize
+        ensures { result < 128 }
+    {
+        usize::from(self.below((n % 129) as u16) % 128)
+    }
+
+    // 2 to 128 boards, most often few.
+    fn size(&mut self) -> usize {
+        let class = self.below(16);
+        let limit = if class < 15 { 2 + 2 * class } else { 127 };
+        2 + usize::from(self.below(limit) % 127)
+    }
+
+    // A number from the least on, of so many.
+    fn pick(&mut self, (least, spread): (u16, u16)) -> u16 {
+        self.below(spread).saturating_add(least)
+    }
+}
+
+// How a ring's boards are drawn: first those with the surplus, which are `width`, and then the others.
 #[derive(Clone, Copy)]
 struct Style {
-    kind: u8,
-    loads: usize,
-    costs: usize,
-    common: u16,
-    mark: usize,
+    kind: Kind,
+    loads: (u16, u16),
     width: usize,
+    costs: Costs,
+    // the cost of every link but in kind 2
+    common: u16,
 }
 
-// A ring's numbers.
-#[derive(Clone, Copy)]
-pub(crate) struct Drawn {
-    pub(crate) kind: u8,
-    pub(crate) n: usize,
-    pub(crate) loads: [u16; 128],
-    pub(crate) afters: [u16; 128],
-    pub(crate) costs: [u16; 128],
-}
-
-// The next number, below the one given and below 8,192; 0 where that is 0.
-pub(crate) fn draw(seed: &mut u64, below: u16) -> u16
-    ensures { result < 8192 }
-{
-    let next = *seed % 2147483647 * 48271 % 2147483647;
-    *seed = next;
-    if below == 0 {
-        return 0;
-    }
-    (next / 16 % (below as u64) % 8192) as u16
-}
-
-pub(crate) fn draw_place(seed: &mut u64, n: usize) -> usize
-    ensures { result < 128 }
-{
-    (draw(seed, (n % 129) as u16) % 128) as usize
-}
-
-// 2 to 128 boards, most often few.
-fn draw_size(seed: &mut u64) -> usize
-    ensures { result ≤ 128 }
-{
-    let class = draw(seed, 16);
-    if class < 15 {
-        return 2 + (draw(seed, 2 + 2 * class) % 127) as usize;
-    }
-    2 + (draw(seed, 127) % 127) as usize
-}
-
-// Board i, where board 0 follows board n − 1.
-fn around(i: usize, n: usize) -> usize
-    requires { n ≤ 128 }
-    ensures { result < 128 }
-{
-    if i < n {
-        return i;
-    }
-    if i - n < n { i - n } else { 0 }
-}
-
-fn load_of(seed: &mut u64, style: Style, k: usize) -> u16 {
-    let loads = style.loads % 8;
-    if k < style.width {
-        wrapping_add_u16(LEAST[loads], draw(seed, SPREAD[loads]))
+// Board k at rest.
+fn draw_board(draws: &mut Draws, style: &Style, k: usize) -> Board {
+    let load = if k < style.width {
+        draws.pick(style.loads)
     } else {
         1
-    }
-}
-
-fn draw_cost(seed: &mut u64, costs: usize) -> u16
-    requires { costs < 6 }
-{
-    wrapping_add_u16(LEAST_COST[costs], draw(seed, COSTS[costs]))
-}
-
-fn cost_of(seed: &mut u64, style: Style, k: usize) -> u16 {
-    let costs = style.costs % 6;
-    if style.kind != 2 {
-        return style.common;
-    }
-    if costs == 0 {
-        return 15 - 2 * ((k % 8) as u16);
-    }
-    draw_cost(seed, costs)
-}
-
-// A ring in which nothing is to move.
-fn at_rest(seed: &mut u64, style: Style, n: usize) -> Drawn
-    requires { n ≤ 128 }
-{
-    let mut ring = Drawn {
-        kind: style.kind,
-        n,
-        loads: [1; 128],
-        afters: [1; 128],
-        costs: [1; 128],
     };
-    let mark = style.mark % 128;
-    for k in 0..n {
-        let load = load_of(seed, style, k);
-        let i = around(mark + k, n);
-        ring.loads[i] = load;
-        ring.afters[i] = load;
-        ring.costs[i] = cost_of(seed, style, k);
-    }
-    ring
-}
-
-// The ring with so many more items to go from one board to another, where both stay within the limits.
-fn with_surplus(ring: Drawn, from: usize, to: usize, items: u16) -> Drawn
-    requires from_bound { from < 128 }
-    requires to_bound { to < 128 }
-    requires items_bound { items ≤ 4095 }
-{
-    let here = ring.afters[from];
-    let there = ring.afters[to];
-    if here <= items {
-        return ring;
-    }
-    if 4095 - items < there {
-        return ring;
-    }
-    if from == to {
-        return ring;
-    }
-    let mut more = ring;
-    more.afters[from] = here - items;
-    more.afters[to] = there + items;
-    more
-}
-
-// A ring with so many surpluses, one after the other.
-fn with_surpluses(seed: &mut u64, style: Style, rest: Drawn, n: usize, turns: usize) -> Drawn
-    requires { n ≤ 128 }
-{
-    let mut ring = rest;
-    let mark = style.mark % 128;
-    let items = ITEMS[style.loads % 8];
-    for _k in 0..turns {
-        let from = around(mark + draw_place(seed, style.width), n);
-        let to = draw_place(seed, n);
-        ring = with_surplus(ring, from, to, 1 + draw(seed, items) % 4094);
-    }
-    ring
-}
-
-// How many of n boards have the surplus.
-fn width_of(loads: usize, n: usize) -> usize
-    requires { n ≤ 128 }
-{
-    match loads {
-        2 => n / 4 + 1,
-        3 | 6 => 1,
-        4 | 7 => n / 2 + 1,
-        _ => n,
+    let cost = match style.kind {
+        Kind::MixedOneWay => style.costs.mixed(draws, k),
+        Kind::OneWay | Kind::TwoWay => style.common,
+    };
+    Board {
+        load,
+        surplus: 0,
+        cost,
     }
 }
 
-// How often items are drawn to go from a board to another.
-fn turns_of(loads: usize, n: usize) -> usize {
-    match loads {
-        1 => 0,
-        6 => 2,
-        _ => n,
+// So many more items are to go from one board to another, where both stay within the limits.
+fn shift(boards: &mut [Board], from: usize, to: usize, items: u16) -> Option<()> {
+    let items = i16::try_from(items).ok()?;
+    let left = boards.get(from)?.after().checked_sub(items.into())?;
+    let held = boards.get(to)?.after().checked_add(items.into())?;
+    if from != to && 1 <= left && held <= 4095 {
+        let giver = boards.get_mut(from)?;
+        giver.surplus = giver.surplus.wrapping_add(items);
+        let taker = boards.get_mut(to)?;
+        taker.surplus = taker.surplus.wrapping_sub(items);
+    }
+    Some(())
+}
+
+// So many turns of items, each from one of the boards from the mark on to another board.
+fn move_items(
+    draws: &mut Draws,
+    boards: &mut [Board],
+    mark: usize,
+    width: usize,
+    turns: usize,
+    items: u16,
+) {
+    let n = boards.len();
+    for _ in 0..turns {
+        let from = mark.wrapping_add(draws.place(width)) % n.max(1);
+        let to = draws.place(n);
+        let _ = shift(boards, from, to, 1 + draws.below(items) % 4094);
     }
 }
 
-// Ring r with n boards: its kind and style by turns, the rest drawn.
-fn draw_boards(seed: &mut u64, r: u32, n: usize) -> Drawn
-    requires { n ≤ 128 }
-{
-    let loads = (r / 3 % 8) as usize;
-    let costs = (r / 24 % 6) as usize;
+// Ring r with n boards: its kind and ways by turns, the rest drawn.
+fn draw_boards(draws: &mut Draws, r: usize, n: usize) -> Job {
+    let kind = Kind::ALL[r % 3];
+    let (least, spread, width, turns, items) = LOADS[r / 3 % 8];
+    let costs = COSTS[r / 24 % 6];
+    let common = costs.common(draws);
+    let mark = draws.place(n);
     let style = Style {
-        kind: 1 + (r % 3) as u8,
-        loads,
+        kind,
+        loads: (least, spread),
+        width: width.of(n),
         costs,
-        common: draw_cost(seed, costs),
-        mark: draw_place(seed, n),
-        width: width_of(loads, n),
+        common,
     };
-    let rest = at_rest(seed, style, n);
-    with_surpluses(seed, style, rest, n, turns_of(loads, n))
+    let mut all = [Board::AT_REST; MOST_BOARDS];
+    let boards = front_mut(&mut all, n);
+    for (k, board) in boards.iter_mut().enumerate() {
+        *board = draw_board(draws, &style, k);
+    }
+    boards.rotate_right(mark.min(boards.len()));
+    move_items(draws, boards, mark, style.width, turns.of(n), items);
+    Job::new(kind, n, all)
 }
 
 // Ring r, each 400th with 128 boards.
-pub(crate) fn draw_ring(seed: &mut u64, r: u32) -> Drawn {
-    if r % 400 == 7 {
-        return draw_boards(seed, r, 128);
-    }
-    let n = draw_size(seed);
-    draw_boards(seed, r, n)
+pub(crate) fn draw_ring(draws: &mut Draws, r: usize) -> Job {
+    let n = if r % 400 == 7 { 128 } else { draws.size() };
+    draw_boards(draws, r, n)
 }
 
-// load − load after.
-fn surplus_of(load: u16, after: u16) -> i16 {
-    if after <= load {
-        ((load - after) % 32768) as i16
-    } else {
-        !(((after - load - 1) % 32768) as i16)
-    }
-}
-
-fn surpluses_of(loads: &[u16; 128], afters: &[u16; 128]) -> [i16; 128] {
-    let mut surpluses = [0i16; 128];
-    for i in 0..128 {
-        surpluses[i] = surplus_of(loads[i], afters[i]);
-    }
-    surpluses
-}
-
-// The first n of each list, by the job writer. The job's length, 0 where the writer refuses it.
-fn write_lists(
-    kind: u8,
-    n: usize,
-    loads: &[u16],
-    surpluses: &[i16],
-    costs: &[u16],
-    job: &mut [u8],
-) -> usize {
-    if loads.len() < n {
-        return 0;
-    }
-    if surpluses.len() < n {
-        return 0;
-    }
-    if costs.len() < n {
-        return 0;
-    }
-    match hop::write(kind, &loads[0..n], &surpluses[0..n], &costs[0..n], job) {
-        Written::Bytes(length) => length,
-        Written::Refused {
-            number: _,
-            board: _,
-        } => 0,
-    }
-}
-
-// The ring as a job, by the job writer. The job's length, 0 where the writer refuses it.
-pub(crate) fn write(ring: Drawn, job: &mut [u8]) -> usize {
-    let loads = ring.loads;
-    let afters = ring.afters;
-    let costs = ring.costs;
-    let surpluses = surpluses_of(&loads, &afters);
-    write_lists(ring.kind, ring.n, &loads, &surpluses, &costs, job)
+// The ring as a job, by the job writer: the job's length, where the writer doesn't refuse it.
+pub(crate) fn write(job: &Job, bytes: &mut [u8]) -> Option<usize> {
+    let n = job.boards().len();
+    hop::write(
+        job.kind as u8,
+        front(&job.numbers(|board| board.load), n),
+        front(&job.numbers(|board| board.surplus), n),
+        front(&job.numbers(|board| board.cost), n),
+        bytes,
+    )
+    .ok()
 }

@@ -1,177 +1,149 @@
 // The second planner's own reading of a job: its numbers, and refusals 1 to 11 as document 01's table has them. It shares nothing with the
-// job reader. Every rule is looked at, whatever the others say, and the refusal that comes first in the table's order is given.
-ghost use Rattle.std.specs.Prelude.{◌<◌, ◌≤◌};
+// job reader. Every rule for the boards is looked at, whatever the others say, and the refusal that comes first in the table's order is given.
+use crate::job::{Board, Job, Kind, MOST_BOARDS, NoKind};
 
-use std::num::{wrapping_add_u32, wrapping_add_usize, wrapping_sub_u32};
-
-// "HOP" as one number.
-const MARK: u32 = 72 * 65536 + 79 * 256 + 80;
-
-// A refusal's rank is its place in the table's order: 16 × its board + its number, and that much more where it comes after a rule of every
-// board. A job that is not refused has the last rank, which is of number 0 and board 0.
-const ALL_BOARDS: u32 = 2048;
-
-const UNREFUSED: u32 = 6144;
-
-// A job's refusal, number 0 where there is none, and its numbers, 0 past the end of its bytes: as many boards as it says, 128 at most. The
-// load after is a number in two's complement.
-#[derive(Clone, Copy)]
-pub(crate) struct Job {
-    pub(crate) number: u8,
-    pub(crate) board: u8,
-    pub(crate) kind: u8,
-    pub(crate) n: u8,
-    pub(crate) loads: [u32; 128],
-    pub(crate) afters: [u32; 128],
-    pub(crate) costs: [u32; 128],
-    // the greatest of each
-    pub(crate) load: u32,
-    pub(crate) cost: u32,
-    // the sum of the loads
-    pub(crate) columns: u32,
+// The number of a board that is outside its limits: the second planner's own, since two programs that share a part agree on its mistakes
+// (docs/DECISIONS.md, A second planner that judges).
+#[derive(Clone, Copy, Debug, PartialEq, Eq, PartialOrd, Ord)]
+pub(crate) enum Fault {
+    Load,
+    After,
+    Cost,
 }
 
-// n as a number of boards.
-pub(crate) fn boards(n: u8) -> usize
-    ensures { result ≤ 128 }
-{
-    if n < 128 { n as usize } else { 128 }
+// Why there is no plan, in the table's order: the second planner's own, with its own numbers.
+#[derive(Clone, Copy, Debug, PartialEq, Eq, PartialOrd, Ord)]
+pub(crate) enum Refusal {
+    Head,
+    Mark,
+    Version,
+    Kind,
+    Boards,
+    Length,
+    Board(u8, Fault),
+    // a link whose cost is not link 0's
+    Unlike(u8),
+    // surpluses whose sum is not 0
+    Surplus,
+    // too small a buffer for the plan
+    Buffer,
+    // too small a list for the columns
+    List,
 }
 
-pub(crate) fn least(a: u32, b: u32) -> u32 {
-    if a < b { a } else { b }
-}
+impl Refusal {
+    pub(crate) fn number(self) -> u8 {
+        match self {
+            Refusal::Head => 1,
+            Refusal::Mark => 2,
+            Refusal::Version => 3,
+            Refusal::Kind => 4,
+            Refusal::Boards => 5,
+            Refusal::Length => 6,
+            Refusal::Board(_, Fault::Load) => 7,
+            Refusal::Board(_, Fault::After) => 8,
+            Refusal::Board(_, Fault::Cost) => 9,
+            Refusal::Unlike(_) => 10,
+            Refusal::Surplus => 11,
+            Refusal::Buffer => 13,
+            Refusal::List => 16,
+        }
+    }
 
-pub(crate) fn most(a: u32, b: u32) -> u32 {
-    if a < b { b } else { a }
-}
-
-// How far a is above b, 0 where it is not.
-pub(crate) fn above(a: u32, b: u32) -> u32 {
-    if b < a { a - b } else { 0 }
-}
-
-// The byte at place k, 0 past the end.
-pub(crate) fn byte(s: &[u8], k: usize) -> u8 {
-    if k < s.len() { s[k] } else { 0 }
-}
-
-// The 16 bits at place k.
-pub(crate) fn half(s: &[u8], k: usize) -> u32
-    ensures { result < 65536 }
-{
-    let next = wrapping_add_usize(k, 1);
-    (byte(s, k) as u32) * 256 + (byte(s, next) as u32)
-}
-
-// Sixteen bits in two's complement, in 32.
-fn extended(bits: u32) -> u32 {
-    if bits < 32768 {
-        bits
-    } else {
-        wrapping_sub_u32(bits, 65536)
+    // The refusal's board, 0 for a refusal of no board.
+    pub(crate) fn board(self) -> u8 {
+        match self {
+            Refusal::Board(board, _) | Refusal::Unlike(board) => board,
+            _ => 0,
+        }
     }
 }
 
-// The rank of refusals 1 to 6.
-fn head_rank(s: &[u8]) -> u32 {
-    if s.len() < 7 {
-        return 1;
-    }
-    if half(s, 0) * 256 + (byte(s, 2) as u32) != MARK {
-        return 2;
-    }
-    if half(s, 3) != 1 {
-        return 3;
-    }
-    if 2 < wrapping_sub_u32(byte(s, 5) as u32, 1) {
-        return 4;
-    }
-    if 126 < wrapping_sub_u32(byte(s, 6) as u32, 2) {
-        return 5;
-    }
-    if s.len() != 7 + 6 * (byte(s, 6) as usize) {
-        return 6;
-    }
-    UNREFUSED
-}
-
-// Whether a number is outside 1 to a limit, one below 0 in two's complement too.
-fn outside(x: u32, limit: u32) -> bool {
-    limit <= wrapping_sub_u32(x, 1)
-}
-
-// The rank of refusals 7 to 10 on board i, where board 0's cost is the first.
-fn board_rank(kind: u8, i: usize, load: u32, after: u32, cost: u32, first: u32) -> u32
-    requires { i < 128 }
-{
-    let rank = 16 * (i as u32);
-    if outside(load, 4095) {
-        return rank + 7;
-    }
-    if outside(after, 4095) {
-        return rank + 8;
-    }
-    if outside(cost, 8000) {
-        return rank + 9;
-    }
-    if kind == 2 {
-        return UNREFUSED;
-    }
-    if cost == first {
-        return UNREFUSED;
-    }
-    ALL_BOARDS + rank + 10
-}
-
-// The rank of refusal 11.
-fn sum_rank(sum: u32) -> u32 {
-    if sum == 0 {
-        UNREFUSED
-    } else {
-        2 * ALL_BOARDS + 11
+impl From<NoKind> for Refusal {
+    fn from(_: NoKind) -> Self {
+        Refusal::Kind
     }
 }
 
-fn ranked(job: Job, rank: u32) -> Job {
-    let mut whole = job;
-    whole.number = (rank % 16) as u8;
-    whole.board = (rank / 16 % 128) as u8;
-    whole
+// The kind and the boards' bytes, or the first of refusals 1 to 6.
+fn opened(s: &[u8]) -> Result<(Kind, &[[u8; 6]]), Refusal> {
+    let Some((head, rest)) = s.split_first_chunk::<7>() else {
+        return Err(Refusal::Head);
+    };
+    let [h, o, p, high, low, kind, n] = *head;
+    if [h, o, p] != *b"HOP" {
+        return Err(Refusal::Mark);
+    }
+    if u16::from_be_bytes([high, low]) != 1 {
+        return Err(Refusal::Version);
+    }
+    let kind = Kind::try_from(kind)?;
+    if !(2..=128).contains(&n) {
+        return Err(Refusal::Boards);
+    }
+    if rest.len() != 6 * usize::from(n) {
+        return Err(Refusal::Length);
+    }
+    let (boards, _) = rest.as_chunks::<6>();
+    Ok((kind, boards))
+}
+
+// Which of a board's numbers is outside its limits, the first where more than one is.
+fn fault_of(board: &Board) -> Option<Fault> {
+    if !(1..=4095).contains(&board.load) {
+        return Some(Fault::Load);
+    }
+    if !(1..=4095).contains(&board.after()) {
+        return Some(Fault::After);
+    }
+    if !(1..=8000).contains(&board.cost) {
+        return Some(Fault::Cost);
+    }
+    None
+}
+
+// Refusals 7 to 10 of board i, where board 0's cost is the first.
+fn board_refusal(kind: Kind, i: u8, board: &Board, first: u16) -> Option<Refusal> {
+    if let Some(fault) = fault_of(board) {
+        return Some(Refusal::Board(i, fault));
+    }
+    if kind == Kind::MixedOneWay || board.cost == first {
+        return None;
+    }
+    Some(Refusal::Unlike(i))
+}
+
+// Refusal 11.
+fn surplus_refusal(boards: &[Board]) -> Option<Refusal> {
+    let sum = boards
+        .iter()
+        .map(|board| i32::from(board.surplus))
+        .fold(0, i32::wrapping_add);
+    (sum != 0).then_some(Refusal::Surplus)
+}
+
+// The first of refusals 7 to 11.
+fn refusal_of(job: &Job) -> Option<Refusal> {
+    let boards = job.boards();
+    let first = boards.first()?.cost;
+    let kind = job.kind;
+    (0..128)
+        .zip(boards)
+        .filter_map(|(i, board)| board_refusal(kind, i, board, first))
+        .chain(surplus_refusal(boards))
+        .min()
 }
 
 // The job of any bytes.
-pub(crate) fn read(s: &[u8]) -> Job {
-    let mut job = Job {
-        number: 0,
-        board: 0,
-        kind: byte(s, 5),
-        n: byte(s, 6),
-        loads: [0; 128],
-        afters: [0; 128],
-        costs: [0; 128],
-        load: 0,
-        cost: 0,
-        columns: 0,
-    };
-    let mut rank = head_rank(s);
-    let mut sum: u32 = 0;
-    let first = half(s, 11);
-    let n = boards(byte(s, 6));
-    for i in 0..n {
-        let at = 7 + 6 * i;
-        let load = half(s, at);
-        let surplus = extended(half(s, at + 2));
-        let after = wrapping_sub_u32(load, surplus);
-        let cost = half(s, at + 4);
-        job.loads[i] = load;
-        job.afters[i] = after;
-        job.costs[i] = cost;
-        job.load = most(job.load, load);
-        job.cost = most(job.cost, cost);
-        job.columns = wrapping_add_u32(job.columns, load);
-        sum = wrapping_add_u32(sum, surplus);
-        rank = least(rank, board_rank(job.kind, i, load, after, cost, first));
+pub(crate) fn read(s: &[u8]) -> Result<Job, Refusal> {
+    let (kind, numbers) = opened(s)?;
+    let mut boards = [Board::AT_REST; MOST_BOARDS];
+    for (board, bytes) in boards.iter_mut().zip(numbers) {
+        *board = Board::from(*bytes);
     }
-    ranked(job, least(rank, sum_rank(sum)))
+    let job = Job::new(kind, numbers.len(), boards);
+    match refusal_of(&job) {
+        Some(refusal) => Err(refusal),
+        None => Ok(job),
+    }
 }
