@@ -56,7 +56,7 @@ impl From<&[u8; 6]> for Record {
         Record {
             link: usize::from(link),
             direction,
-            start: u32::from_be_bytes([a, b, c, d]),
+            start: ring::quad(a, b, c, d),
         }
     }
 }

@@ -71,7 +71,7 @@ fn arrival(buf: &[u8], feed: Feed, x: usize) -> Ticks
         return Ticks(0);
     }
     let at = feed.from + 6 * (x - feed.load) + 2;
-    let start = u32::from_be_bytes([buf[at], buf[at + 1], buf[at + 2], buf[at + 3]]);
+    let start = ring::quad(buf[at], buf[at + 1], buf[at + 2], buf[at + 3]);
     ring::end_of(start, feed.cost)
 }
 

@@ -25,7 +25,7 @@ pub fn end_of(start: u32, cost: u16) -> Ticks
     Ticks(u64::from(start) + u64::from(cost))
 }
 
-// The number of four bytes, the highest first. Nothing here asks for it, since `u32::from_be_bytes` is there; docs/PROMISES.md promises it.
+// The number of four bytes, the highest first: the start in a plan's record.
 pub fn quad(a: u8, b: u8, c: u8, d: u8) -> u32
     ensures { result ≡ (a * 256 + b) * 65536 + (c * 256 + d) }
 {
