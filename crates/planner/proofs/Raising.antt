@@ -19,7 +19,7 @@ use Rattle.ring.proofs.Tests.{le_lt}
 use Rattle.ring.proofs.Bounds.{items_most}
 use Rattle.ring.proofs.Signed.{taken_off}
 use Rattle.planner.specs.Lent.{Lent}
-use Rattle.planner.specs.Levels.{raised, levels_from, Leads}
+use Rattle.planner.specs.Levels.{raised, levels_from}
 
 -- the sum of the first of a list's numbers
 pub sum_taken : (xs : List ℕ) (n : ℕ) → n ≤ length xs → list.sum (take n xs) ≡ sum (each xs) n
@@ -75,13 +75,6 @@ module _ {kind n : ℕ} {loads : List ℕ} {surpluses : List ℤ} {costs : List 
   pub few : (k : ℕ) → k ≤ n → under r k ≤ 256 * most_load
   few k h = omega (arith, sum_mono r.load k n h, lent.accepted.balanced, items_most r lent.accepted)
 
-  whole : (m k : ℕ) → k + m ≡ n → Leads (under r k) (take m (drop k surpluses))
-  whole zero k e = few k (omega arith)
-  whole (suc m) k e =
-      let h : k < n = omega arith in
-      rw (drop-cons surpluses k (pos 0) (omega (arith, lent.surpluses_long)))
-      (few k (omega arith), (rw (rises k h) (leads k h), rw (rises k h) (whole m (suc k) (omega arith))))
-
   from : (m k : ℕ) → k + m ≡ n → levels_from (under r k) (take m (drop k surpluses)) ≡ up_to (λ i. level r (k + i)) m
   unfolding joined level
   from zero k e = refl
@@ -115,9 +108,6 @@ module _ {kind n : ℕ} {loads : List ℕ} {surpluses : List ℤ} {costs : List 
   pub under_suc : (k : ℕ) → under r (suc k) ≡ level r k
   unfolding level
   under_suc k = refl
-
-  pub levels_lead : Leads (sum (each loads) n) (take n surpluses)
-  levels_lead = rw (← total_is) (whole n 0 (omega arith))
 
   pub levels_are : levels_from (sum (each loads) n) (take n surpluses) ≡ up_to (level r) n
   levels_are = ap (λ (x : ℕ). levels_from x (take n surpluses)) (sym total_is) ∙ from n 0 (omega arith) ∙ (λ t. up_to (λ i. level r (zero-add i t)) n)

@@ -122,7 +122,7 @@ module _ (r : Ring) (o : ℕ) where
     start_few l x h k = omega (arith, (timed r o ok (inr one)).ended l x h k, finish_most r ok o (inr one))
 
     -- all places are within the plan, which is not long
-    place_last : record_place (moves r o) ≡ place_of r.n
+    pub place_last : record_place (moves r o) ≡ place_of r.n
     unfolding moves
     place_last = refl
 

@@ -1,6 +1,7 @@
 -- The levels of a ring as sums: each is the total of the loads and the surpluses so far. Assumes nothing.
-use Rattle.std.proofs.Common.{◌≡◌, sym, ap, ◌∙◌, List, ℕ, zero, suc, ◌-◌, ◌≤◌, ◌<◌, min, max, le_refl, arith, ℤ, pos, nat_abs, ◌+ℤ◌}
+use Rattle.std.proofs.Common.{◌≡◌, sym, ap, subst, ◌∙◌, List, ℕ, zero, suc, ◌+◌, ◌-◌, ◌≤◌, ◌<◌, min, max, le_refl, arith, ℤ, pos, nat_abs, ◌+ℤ◌, take, drop}
 use lib.IntN.{+ℤ_assoc}
+use lib.Seq.{drop-cons}
 use Rattle.ring.specs.Numbers.{sum, sum_ℤ, least, greatest}
 use Rattle.ring.specs.Lists.{each, each_ℤ}
 use Rattle.ring.specs.Boards.{ring_in}
@@ -8,7 +9,7 @@ use Rattle.ring.specs.Plan.{level, low, high}
 use Rattle.ring.proofs.Sums.{least_le, le_greatest}
 use Rattle.planner.specs.declared.sums.Span.{Span}
 use Rattle.planner.specs.Lent.{Lent}
-use Rattle.planner.specs.Levels.{before, Levels}
+use Rattle.planner.specs.Levels.{Leads, before, Levels}
 use Rattle.planner.specs.Outline.{span_of}
 use Rattle.planner.proofs.Raising.{under, leads, few, total_is, last_level}
 
@@ -28,6 +29,25 @@ module _ (f g : ℕ → ℕ) where
 pub before_first : (total : ℕ) (surpluses : List ℤ) → before total surpluses 0 ≡ total
 unfolding sum_ℤ
 before_first total surpluses = omega arith
+
+-- the surpluses of `Levels` lead on, one after the other
+module _ {n total : ℕ} {surpluses : List ℤ} (l : Levels n total surpluses) where
+  pub step : (k : ℕ) → k < n → pos (before total surpluses (suc k)) ≡ pos (before total surpluses k) +ℤ each_ℤ surpluses k
+  unfolding sum_ℤ
+  step k h =
+      let s = each_ℤ surpluses k in
+      l.whole (suc k) h ∙ sym (+ℤ_assoc (pos total) (sum_ℤ (each_ℤ surpluses) k) s) ∙ ap (λ (z : ℤ). z +ℤ s) (sym (l.whole k (omega arith)))
+
+  from : (m k : ℕ) → k + m ≡ n → Leads (before total surpluses k) (take m (drop k surpluses))
+  from zero k e = l.few k (omega arith)
+  from (suc m) k e =
+      let h : k < n = omega arith in
+      let rises : nat_abs (pos (before total surpluses k) +ℤ each_ℤ surpluses k) ≡ before total surpluses (suc k) = ap nat_abs (sym (step k h)) in
+      rw (drop-cons surpluses k (pos 0) (omega (arith, l.long)))
+      (l.few k (omega arith), (rw rises (step k h), rw rises (from m (suc k) (omega arith))))
+
+  pub leads_on : Leads total (take n surpluses)
+  leads_on = subst (λ (x : ℕ). Leads x (take n surpluses)) (before_first total surpluses) (from n 0 (omega arith))
 
 module _ {kind n : ℕ} {loads : List ℕ} {surpluses : List ℤ} {costs : List ℕ} (lent : Lent kind n loads surpluses costs) where
   raised : (k : ℕ) → k ≤ n → pos (sum (each loads) n) +ℤ sum_ℤ (each_ℤ surpluses) k ≡ pos (under (ring_in kind n loads surpluses costs) k)

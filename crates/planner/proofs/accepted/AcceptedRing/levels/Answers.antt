@@ -1,11 +1,12 @@
 -- `AcceptedRing::levels`: the surpluses lead from the total to the levels of the links. Assumes nothing.
 use Rattle.std.proofs.Common.{◌∙◌, take}
 use Rattle.planner.specs.Levels.{levels_from}
-use Rattle.planner.proofs.Raising.{levels_lead, levels_are}
+use Rattle.planner.proofs.Raising.{levels_are}
+use Rattle.planner.proofs.SumLevels.{levels, leads_on}
 use Rattle.planner.proofs.accepted.AcceptedRing.levels.Goals as goal
 
 pub new-requires : goal.new-requires
-new-requires c = let a = c.args.self.now in rw (a.added, c.from.ensures) (levels_lead a.lent)
+new-requires c = let a = c.args.self.now in rw (a.added, c.from.ensures) (leads_on (levels a.lent))
 
 pub returns : goal.returns
 returns c =
