@@ -1,8 +1,8 @@
 -- The size of a sum of signed numbers. Assumes nothing.
-use Rattle.std.proofs.Common.{◌≡◌, suc, ◌+◌, ◌*◌, ◌-◌, ◌≤◌, ℤ, pos, negsuc, ◌+ℤ◌, w16, w32, to_z, of_z, to_z-of_z, FitsSigned, arith}
+use Rattle.std.proofs.Common.{suc, ◌+◌, ◌-◌, ◌≤◌, ℤ, pos, negsuc, ◌+ℤ◌, arith}
 use Rattle.std.specs.Int.Signed.{mag}
 use lib.Dec.{ltb}
-use Rattle.ring.proofs.After.{mag_cond, narrow}
+use Rattle.ring.proofs.After.{mag_cond}
 
 pub mag_add : (a b : ℤ) → mag (a +ℤ b) ≤ mag a + mag b + 1
 mag_add (pos a) (pos b) = omega arith

@@ -1,6 +1,6 @@
 // The rules that a ring's numbers are held to, said once for the reader and the writer, whose boards stand in bytes and in lists: refusals 4, 5 and
 // 7 to 11.
-ghost use Rattle.std.specs.Prelude.{◌≡◌, ℕ, ℤ, ◌*◌, ◌≤◌, ◌<◌, pos, None};
+ghost use Rattle.std.specs.Prelude.{◌≡◌, ℕ, ℤ, ◌*◌, ◌≤◌, ◌<◌, pos};
 ghost use Rattle.std.specs.Int.Signed.{mag};
 ghost use Rattle.hop.specs.Refusals.{shape_of, ring_check};
 ghost use Rattle.hop.specs.Seen.{seen_with, settled_of};
@@ -39,36 +39,41 @@ pub(crate) fn shape(kind: u8, n: usize) -> Result<Shape, Refusal>
     Ok(Shape { kind, n: n as u8 })
 }
 
-// What a walk over a ring's boards has seen: the cost of board 0, the first board whose cost differs from it, and the sum of the surpluses.
+// What a walk over a ring's boards has seen: the cost of board 0, how many boards from there on have it too, and the sum of the surpluses.
 #[derive(Clone, Copy)]
 struct Seen {
     first: u16,
-    unlike: Option<u8>,
+    alike: u8,
     sum: i32,
 }
 
 impl Seen {
     // With no board seen yet, of a ring whose board 0 has this cost.
     fn none(first: u16) -> Self
-        ensures { result ≡ record { first = first; unlike = None; sum = pos 0 } }
+        ensures { result ≡ record { first = first; alike = 0; sum = pos 0 } }
     {
         Seen {
             first,
-            unlike: None,
+            alike: 0,
             sum: 0,
         }
     }
 
     // With board i seen too; or which of its numbers is outside its limits.
     fn with(self, i: u8, board: Numbers) -> Result<Self, Outside>
-        requires { mag self.sum ≤ 32768 * 128 }
+        requires small { mag self.sum ≤ 32768 * 128 }
+        requires few { i < 128 }
         ensures { result ≡ seen_with self i board.load board.surplus board.cost }
     {
         let _ = Board::new(board.load, board.surplus, board.cost)?;
-        let unlike = (board.cost != self.first).then_some(i);
+        let alike = if self.alike == i && board.cost == self.first {
+            i + 1
+        } else {
+            self.alike
+        };
         Ok(Seen {
             first: self.first,
-            unlike: self.unlike.or(unlike),
+            alike,
             sum: self.sum + i32::from(board.surplus),
         })
     }
@@ -78,8 +83,8 @@ impl Seen {
         ensures { result ≡ settled_of ring self }
     {
         if ring.kind != Kind::MixedOneWay {
-            if let Some(board) = self.unlike {
-                return Err(Refusal::UnlikeCost { board });
+            if self.alike < ring.n {
+                return Err(Refusal::UnlikeCost { board: self.alike });
             }
         }
         if self.sum != 0 {

@@ -1,5 +1,5 @@
 -- `rules::check`: the walk goes on with the numbers of the next board. Assumes nothing.
-use Rattle.std.proofs.Common.{◌≡◌, refl, sym, ap, subst, ◌∙◌, pos, None, FitsSigned, w16, rules, arith}
+use Rattle.std.proofs.Common.{◌≡◌, refl, sym, ap, subst, ◌∙◌, pos, FitsSigned, w16, rules, arith}
 use Rattle.hop.specs.declared.Numbers.{Numbers}
 use Rattle.hop.specs.declared.rules.Seen.{Seen}
 use Rattle.hop.specs.Seen.{seen_with}
@@ -8,7 +8,7 @@ use Rattle.hop.proofs.rules.check.Goals as goal
 use Rattle.hop.proofs.rules.check.Goals.{After-with}
 
 pub loop-i-init : goal.loop-i-init
-loop-i-init g c = none (c.none-seen.ensures ∙ ap (λ (x : Numbers). let s : Seen = record { first = x.cost; unlike = None; sum = pos 0 } in s) c.numbers.ensures)
+loop-i-init g c = none (c.none-seen.ensures ∙ ap (λ (x : Numbers). let s : Seen = record { first = x.cost; alike = 0; sum = pos 0 } in s) c.numbers.ensures)
 
 -- what is said of the next board is said of its numbers
 seen : (g : _) (c : After-with g) → c.with.result ≡ seen_with c.loop-i.seen c.loop-i.i (g.B.Boards.load c.args.boards.now c.loop-i.i) (g.B.Boards.surplus c.args.boards.now c.loop-i.i) (g.B.Boards.cost c.args.boards.now c.loop-i.i)
