@@ -59,6 +59,6 @@ module _ (s xs ys : List ℕ) (shape : Shape) (read : (job_of s).answer ≡ Ok s
       (sym e, l.written, sym l.fills ∙ (λ t. columns_by job (read t) ys))
 
   -- "16, list shorter than N, after 13", board 0, and buffer and list keep what they have
-  pub short : length ys < N ring → Kept s xs ys (ShortList 16)
+  pub short : length ys < N ring → Kept s xs ys (ShortList 16 0)
   short h =
       kept s xs ys (sym (short_answer 16 (columns_in job job.answer) job (length xs) (length ys) (rw needs h)) ∙ ap (λ (p : Result Planned Refusal). lacking 16 p) planned)

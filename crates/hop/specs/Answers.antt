@@ -21,12 +21,13 @@ number_by (UnlikeCost board) = 10
 number_by Unbalanced = 11
 number_by TooLate = 12
 number_by NoRoom = 13
-number_by (ShortList number) = number
+number_by (ShortList number board) = number
 
 -- the board that it names, and 0 where it names none
 abbrev pub board_by : Refusal → ℕ
 board_by (BadBoard fault board) = board
 board_by (UnlikeCost board) = board
+board_by (ShortList number board) = board
 board_by TooShort = 0
 board_by NoJob = 0
 board_by NoVersion = 0
@@ -36,7 +37,6 @@ board_by WrongLength = 0
 board_by Unbalanced = 0
 board_by TooLate = 0
 board_by NoRoom = 0
-board_by (ShortList number) = 0
 
 -- as it is printed: "refused N board B"
 abbrev pub refused_text : Refusal → List ℕ

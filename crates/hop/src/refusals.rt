@@ -30,8 +30,9 @@ pub enum Refusal {
     TooLate,
     // the lent buffer is too short
     NoRoom,
-    // a lent list is too short; its number is the call's own, and `lists::plan_for` promises any (`list_answer`)
-    ShortList { number: u8 },
+    // a lent list is too short; number and board are the call's own: `lists::plan_for` promises any number, with board 0 (`list_answer`), and what `number`
+    // and `board` promise is of any two
+    ShortList { number: u8, board: u8 },
 }
 
 impl Refusal {
@@ -51,7 +52,7 @@ impl Refusal {
             Refusal::Unbalanced => 11,
             Refusal::TooLate => 12,
             Refusal::NoRoom => 13,
-            Refusal::ShortList { number } => number,
+            Refusal::ShortList { number, board: _ } => number,
         }
     }
 
@@ -62,6 +63,7 @@ impl Refusal {
         match self {
             Refusal::BadBoard { fault: _, board } => board,
             Refusal::UnlikeCost { board } => board,
+            Refusal::ShortList { number: _, board } => board,
             _ => 0,
         }
     }

@@ -10,7 +10,7 @@ use Rattle.planner.specs.Answer.{PlannerGives, plan_answer, plan_memory}
 
 -- the call's own number in place of a plan's numbers; the planner's refusal comes first
 abbrev pub lacking : ℕ → Result Planned Refusal → Result Planned Refusal
-lacking own (Ok planned) = Err (ShortList own)
+lacking own (Ok planned) = Err (ShortList own 0)
 lacking own (Err refusal) = Err refusal
 
 -- `after` where the answer is a plan's numbers; a refusal leaves what was there

@@ -24,5 +24,5 @@ pub fn plan_for(
         return planner::plan(s, buf);
     }
     let _ = planner::weigh(s, buf.len())?;
-    Err(Refusal::ShortList { number })
+    Err(Refusal::ShortList { number, board: 0 })
 }
