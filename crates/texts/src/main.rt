@@ -3,13 +3,15 @@
 // proofs), nor 14, since it asks for no loads.
 #![tactic(auto)]
 
-ghost use Rattle.std.specs.Prelude.{◌≤◌, ◌<◌};
+ghost use Rattle.std.specs.Prelude.{◌≤◌, ◌<◌, length};
 
 use hop::Kind;
 use std::io;
 
 // What is shown of a text: all of a short one, the first line of a longer one.
-fn shown(text: &[u8]) -> &[u8] {
+fn shown(text: &[u8]) -> &[u8]
+    ensures { length result.now ≤ length text.now }
+{
     match text.iter().position(|byte| *byte == b'\n') {
         Some(end) if text.len() > 200 => &text[..end + 1],
         _ => text,
