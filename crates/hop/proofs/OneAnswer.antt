@@ -24,6 +24,8 @@ use Rattle.hop.proofs.reader.checked.Kinds as checked
 use Rattle.hop.proofs.reader.checked.Reads as checked-said
 use Rattle.hop.proofs.reader.numbers_of.Kinds as numbers-of
 use Rattle.hop.proofs.reader.numbers_of.Reads as numbers-of-said
+use Rattle.hop.proofs.reader.numbers_into.Kinds as numbers-into
+use Rattle.hop.proofs.reader.numbers_into.Reads as numbers-into-said
 use Rattle.hop.proofs.reader.read.Kinds as read
 use Rattle.hop.proofs.reader.read.Reads as read-said
 use Rattle.hop.proofs.reader.read_into.Kinds as read-into
@@ -59,6 +61,10 @@ one_checked κs a x y s t p q = p ∙ sym q
 pub one_numbers_of : (κs : Lfts 1) (a : Dens κs numbers-of.ps) (x y : (res_t numbers-of.r κs).Denot) (s t : AtExit (ended_of 1 numbers-of.ps numbers-of.r) κs)
     → numbers-of-said.Post κs a x s → numbers-of-said.Post κs a y t → x ≡ y
 one_numbers_of κs a x y s t p q = p ∙ sym q
+
+pub one_numbers_into : (κs : Lfts 2) (a : Dens κs numbers-into.ps) (x y : (res_t numbers-into.r κs).Denot) (s t : AtExit (ended_of 2 numbers-into.ps numbers-into.r) κs)
+    → numbers-into-said.Post κs a x s → numbers-into-said.Post κs a y t → s.1.1.0.now ≡ t.1.1.0.now
+one_numbers_into κs a x y s t p q = p ∙ sym q
 
 pub one_read : (κs : Lfts 1) (a : Dens κs read.ps) (x y : (res_t read.r κs).Denot) (s t : AtExit (ended_of 1 read.ps read.r) κs)
     → read-said.Post κs a x s → read-said.Post κs a y t → x ≡ y

@@ -1,5 +1,5 @@
 -- What is known of the bytes of a job, and of arrays that hold what they say. Assumes nothing.
-use Rattle.std.proofs.Common.{◌≡◌, sym, ap, ◌∙◌, List, ℕ, ◌+◌, ◌≤◌, ltb, eqb, pos, length, get_or, replicate, Ok, Err, arith}
+use Rattle.std.proofs.Common.{◌≡◌, sym, ap, ◌∙◌, List, ℕ, ◌≤◌, ltb, eqb, pos, length, get_or, replicate, Ok, Err, arith}
 use borrow.Author.Tests.{le-ltb, eq-eqb, eqb-true}
 use Rattle.ring.specs.Bytes.{half_at}
 use Rattle.ring.specs.Lists.{each, each_ℤ}
@@ -9,7 +9,7 @@ use Rattle.hop.specs.declared.Job.{Job}
 use Rattle.hop.specs.declared.refusals.Refusal.TheVariants.{TooShort, NoJob, NoVersion, WrongLength}
 use Rattle.hop.specs.Kinds.{number_of}
 use Rattle.hop.specs.Refusals.{unlike, shape_of, ring_check}
-use Rattle.hop.specs.Read.{job_length, load_in, surplus_in, cost_in, stored_in, numbers_in, sizes_of, mark_of, head_of, check_of, beside}
+use Rattle.hop.specs.Read.{job_length, load_in, surplus_in, cost_in, sizes_of, mark_of, head_of, check_of, beside}
 use Rattle.hop.specs.Lawful.{Headed}
 use Rattle.hop.proofs.KindNumbers.{kind_within}
 use Rattle.hop.proofs.First.{no, yes, goes, went_on}

@@ -1,5 +1,5 @@
 -- Document 01, "Bytes": what the bytes of a job say, or why they are refused.
-use Rattle.std.specs.Prelude.{List, ℕ, ◌+◌, ◌*◌, ltb, ℤ, pos, length, get_or, replicate, Result, Ok, Err}
+use Rattle.std.specs.Prelude.{List, ℕ, ◌+◌, ◌*◌, min, ltb, ℤ, pos, length, get_or, replicate, Result, Ok, Err}
 use Rattle.std.specs.Int.{w16}
 use Rattle.std.proofs.Common.{to_z}
 use Rattle.ring.specs.Numbers.{pick}
@@ -35,6 +35,16 @@ stored_in s i = record { load = load_in s i; surplus = surplus_in s i; cost = co
 -- the same, and zeros where the bytes end before that board's do
 abbrev pub numbers_in : List ℕ → ℕ → Numbers
 numbers_in s i = pick (ltb (length s) (job_length i + 6)) (record { load = 0; surplus = pos 0; cost = 0 }) (stored_in s i)
+
+-- a job whose arrays of 128 have the numbers of n boards in their first places, as the bytes have them, and what was there after them
+abbrev pub with_numbers_in : List ℕ → ℕ → Job → Job
+with_numbers_in s n job =
+    record {
+      answer = job.answer;
+      loads = fill (λ i. (numbers_in s i).load) (min n 128) job.loads;
+      surpluses = fill (λ i. (numbers_in s i).surplus) (min n 128) job.surpluses;
+      costs = fill (λ i. (numbers_in s i).cost) (min n 128) job.costs;
+    }
 
 -- refusals 4 to 6, or the kind and n
 abbrev pub sizes_of : List ℕ → Result Shape Refusal

@@ -12,7 +12,7 @@ mod rules;
 mod writer;
 
 pub use kinds::Kind;
-pub use reader::{checked, numbers_of, read, read_into};
+pub use reader::{checked, numbers_into, numbers_of, read, read_into};
 pub use refusals::{Refusal, board, number};
 pub use writer::write;
 

@@ -1,6 +1,6 @@
 // The job reader: from any bytes to a job.
 ghost use Rattle.std.specs.Prelude.{◌≡◌, ◌+◌, ◌≤◌, length};
-ghost use Rattle.hop.specs.Read.{job_length, load_in, surplus_in, cost_in, numbers_in, sizes_of, mark_of, head_of, check_of, job_of};
+ghost use Rattle.hop.specs.Read.{job_length, load_in, surplus_in, cost_in, numbers_in, with_numbers_in, sizes_of, mark_of, head_of, check_of, job_of};
 
 use crate::bits::half;
 use crate::rules::{Boards, check, shape};
@@ -88,8 +88,23 @@ pub fn checked(s: &[u8]) -> Result<Shape, Refusal>
     check(head(s)?, &Bytes { s })
 }
 
-// Reads any bytes into a job: what they say, or their first refusal of 1 to 11 with zeros beside it. The job is filled where it stands, since one that is
-// returned by value stands on the stack more than once.
+// Puts the numbers of n boards, as `numbers_of` has them, into the first n places of a job's arrays; its answer and its other places stay. From a ring's
+// answer with zeros beside it this makes the job that is read, so nothing is cleared twice.
+pub fn numbers_into(s: &[u8], n: u8, job: &mut Job)
+    ensures { job.new ≡ with_numbers_in s.now n job.old }
+{
+    let held = n.min(MOST_BOARDS as u8);
+    // by board, since document 01 asks for three arrays side by side
+    for i in 0..held {
+        let k = usize::from(i);
+        let board = numbers_of(s, i);
+        job.loads[k] = board.load;
+        job.surpluses[k] = board.surplus;
+        job.costs[k] = board.cost;
+    }
+}
+
+// Reads any bytes into a job that is lent: what they say, or their first refusal of 1 to 11 with zeros beside it, whatever it held.
 pub fn read_into(s: &[u8], job: &mut Job)
     ensures { job.new ≡ job_of s.now }
 {
@@ -98,14 +113,7 @@ pub fn read_into(s: &[u8], job: &mut Job)
     job.surpluses = [0; MOST_BOARDS];
     job.costs = [0; MOST_BOARDS];
     if let Ok(ring) = job.answer {
-        // by board, since document 01 asks for three arrays side by side
-        for i in 0..ring.n {
-            let k = usize::from(i);
-            let board = Bytes { s }.numbers(i);
-            job.loads[k] = board.load;
-            job.surpluses[k] = board.surplus;
-            job.costs[k] = board.cost;
-        }
+        numbers_into(s, ring.n, job);
     }
 }
 
@@ -114,6 +122,9 @@ pub fn read(s: &[u8]) -> Job
     ensures { result ≡ job_of s.now }
 {
     let mut job = Job::UNREAD;
-    read_into(s, &mut job);
+    job.answer = checked(s);
+    if let Ok(ring) = job.answer {
+        numbers_into(s, ring.n, &mut job);
+    }
     job
 }

@@ -90,13 +90,15 @@ pub fn weigh(s: &[u8], room: usize) -> Result<Planned, Refusal>
     weigh_ring(&AcceptedRing::new(shape, &job), room)
 }
 
-// The plan of a job into a lent buffer: its numbers, or the first refusal of 1 to 13, which leaves the buffer as it was.
+// The plan of a job into a lent buffer: its numbers, or the first refusal of 1 to 13, which leaves the buffer as it was. The job is put together in
+// place, since one that `hop::read` returns by value stands on the stack twice; a refused one is not made at all.
 pub fn plan(s: &[u8], buf: &mut [u8]) -> Result<Planned, Refusal>
     ensures value { result ≡ plan_answer (job_of s.now) (length buf.old) }
     ensures buf_after { buf.new ≡ plan_memory (job_of s.now) buf.old }
 {
+    let shape = hop::checked(s)?;
     let mut job = Job::UNREAD;
-    hop::read_into(s, &mut job);
-    let shape = job.answer?;
+    job.answer = Ok(shape);
+    hop::numbers_into(s, shape.n, &mut job);
     plan_ring(&AcceptedRing::new(shape, &job), buf)
 }
