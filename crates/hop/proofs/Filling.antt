@@ -49,6 +49,14 @@ none = record { few = omega arith; is = refl }
 pub all : {s : List ℕ} {n i : ℕ} {was job : Job} → Filled s n i was job → n ≤ i → job ≡ filled_to s n was
 all {s} {n} {i} {was} f l = let q : i ≡ n = omega (arith, f.few) in f.is ∙ ap (λ (k : ℕ). filled_to s k was) q
 
+-- a job with another answer
+abbrev pub answering : Job → Result Shape Refusal → Job
+answering job answer = record { answer = answer; loads = job.loads; surpluses = job.surpluses; costs = job.costs }
+
+-- zeros stay zeros
+pub cleared : {job : Job} (answer : Result Shape Refusal) → job ≡ bare job.answer → answering job answer ≡ bare answer
+cleared answer is = ap (λ (j : Job). answering j answer) is
+
 -- what the bytes have of a board that they are long enough for
 stored : (s : List ℕ) (i : ℕ) → job_length i + 6 ≤ length s → numbers_in s i ≡ stored_in s i
 stored s i h = rw (le-ltb (length s) (job_length i + 6) h) refl

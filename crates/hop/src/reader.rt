@@ -1,6 +1,6 @@
 // The job reader: from any bytes to a job.
 ghost use Rattle.std.specs.Prelude.{◌≡◌, ◌+◌, ◌≤◌, length};
-ghost use Rattle.hop.specs.Read.{job_length, load_in, surplus_in, cost_in, numbers_in, with_numbers_in, sizes_of, mark_of, head_of, check_of, job_of};
+ghost use Rattle.hop.specs.Read.{job_length, load_in, surplus_in, cost_in, numbers_in, with_numbers_in, sizes_of, mark_of, head_of, check_of, bare, job_of};
 
 use crate::bits::half;
 use crate::rules::{Boards, check, shape};
@@ -104,17 +104,25 @@ pub fn numbers_into(s: &[u8], n: u8, job: &mut Job)
     }
 }
 
+// Reads any bytes into a job whose arrays hold zeros.
+fn read_cleared(s: &[u8], job: &mut Job)
+    requires { job.old ≡ bare job.old.answer }
+    ensures { job.new ≡ job_of s.now }
+{
+    job.answer = checked(s);
+    if let Ok(ring) = job.answer {
+        numbers_into(s, ring.n, job);
+    }
+}
+
 // Reads any bytes into a job that is lent: what they say, or their first refusal of 1 to 11 with zeros beside it, whatever it held.
 pub fn read_into(s: &[u8], job: &mut Job)
     ensures { job.new ≡ job_of s.now }
 {
-    job.answer = checked(s);
     job.loads = [0; MOST_BOARDS];
     job.surpluses = [0; MOST_BOARDS];
     job.costs = [0; MOST_BOARDS];
-    if let Ok(ring) = job.answer {
-        numbers_into(s, ring.n, job);
-    }
+    read_cleared(s, job);
 }
 
 // The job of any bytes, or its first refusal of 1 to 11.
@@ -122,9 +130,6 @@ pub fn read(s: &[u8]) -> Job
     ensures { result ≡ job_of s.now }
 {
     let mut job = Job::UNREAD;
-    job.answer = checked(s);
-    if let Ok(ring) = job.answer {
-        numbers_into(s, ring.n, &mut job);
-    }
+    read_cleared(s, &mut job);
     job
 }
